@@ -1,0 +1,2 @@
+// The library's C interface. include/sstable.h has a comment for each call.
+pub mod varint; // varint.rt: varints

@@ -1,0 +1,6 @@
+pub mod Choose
+pub mod Refusals
+pub mod Got
+pub mod Store
+pub mod BigEndian
+pub mod Varints

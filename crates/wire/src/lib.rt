@@ -1,0 +1,5 @@
+// What every part of the library stands on: what a refusal says, fixed numbers and varints in bytes, and bytes that are copied.
+pub mod refusal; // refusal.rt: faults and slices with document 01's numbers
+pub mod number; // number.rt: big-endian numbers of a width
+pub mod varint; // varint.rt: varints
+pub mod copy; // copy.rt: a part of a slice, copied
