@@ -8,11 +8,14 @@ use lib.Dec.{ltb, leb, lit<, leb→le}
 use borrow.Author.Tests.{ltb-false}
 use native.Mathlib.Omega.{arith}
 use lib.ListN.{length, getD}
-use Rattle.wire.specs.Got.{Got, got, bad}
+use Rattle.wire.specs.Got.{Got, got, bad, saidNum}
+use Rattle.wire.specs.declared.number.Num.{Num}
+use Rattle.wire.specs.declared.number.Num.the-variants.{Number}
 use Rattle.wire.specs.BigEndian.{bigEndian, bytesOf, fixedAt}
 use Rattle.wire.proofs.Choose.{cases}
 use Rattle.wire.proofs.Finite.{below-at}
-use Rattle.wire.proofs.Gives.{Gives, gives-got, gives-bad, gives-pick}
+use Rattle.wire.proofs.Gives.{Gives, gives-got, gives-bad, gives-pick, gives-is}
+use Rattle.wire.proofs.Said.{num-got}
 use Rattle.wire.proofs.RoundTrip.{Reads}
 use Rattle.wire.proofs.Stands.{Stands}
 
@@ -96,6 +99,19 @@ fixed-gives w s at end b =
       within = omega (arith, ltb-false end at f, ltb-false (end - at) w g);
       small = omega (arith, be-lt 0 s at w b);
     })))))
+
+-- a number that the code has read ends before the end
+pub fixed-within : (r : Num) (w : ℕ) (s : List ℕ) (at end v n : ℕ) → saidNum r ≡ fixedAt w s at end → r ≡ Number v n → n ≤ end
+unfolding fixedAt
+fixed-within r w s at end v n e f =
+    gives-is
+    {P = λ x m. m ≤ end}
+    (gives-pick (ltb 8 w) (λ d. gives-bad _ _) (λ d.
+    gives-pick (ltb (length s) end) (λ d. gives-bad _ _) (λ d.
+    gives-pick (ltb end at) (λ g. gives-bad _ _) (λ g.
+    gives-pick (ltb (end - at) w) (λ h. gives-bad _ _) (λ h.
+    gives-got _ _ (omega (arith, ltb-false end at g, ltb-false (end - at) w h)))))))
+    (num-got r _ v n e f)
 
 -- round trip: what is put is read back
 pub fixed-back : (w : ℕ) (s : List ℕ) (end at n x : ℕ) → w ≤ 8 → x < 256 ^ w → Stands s end at n (bytesOf x w) → Reads (fixedAt w s at end) n (λ y. y ≡ x)

@@ -11,7 +11,9 @@ use lib.Dec.{ltb, leb, eqb, T, eqb→eq, leb→le}
 use lib.ListN.{length, getD, set, length-set}
 use lib.Pow.{pow-mono}
 use Rattle.wire.specs.Choose.{pick, bind}
-use Rattle.wire.specs.Got.{Got, got, bad}
+use Rattle.wire.specs.Got.{Got, got, bad, saidNum}
+use Rattle.wire.specs.declared.number.Num.{Num}
+use Rattle.wire.specs.declared.number.Num.the-variants.{Number}
 use Rattle.wire.specs.BigEndian.{bigEndian, bytesOf}
 use Rattle.wire.specs.Varints.{leading, low, varintAt, form, extra, shortest}
 use Rattle.wire.specs.Store.{Room, Puts}
@@ -21,7 +23,8 @@ use Rattle.wire.proofs.Finite.{below-at, allBelow, implies}
 use Rattle.wire.proofs.BigEndian.{be-lt, be-bytes, getD-bytesOf, length-bytesOf}
 use Rattle.wire.proofs.Marker.{leading-small, low-small, leading-le, low-lt, low-fits}
 use Rattle.wire.proofs.Shortest.{extra-le, extra-fewest, top-lt, length-form, length-shortest}
-use Rattle.wire.proofs.Gives.{Gives, gives-got, gives-bad, gives-pick, gives-bind}
+use Rattle.wire.proofs.Gives.{Gives, gives-got, gives-bad, gives-pick, gives-bind, gives-is}
+use Rattle.wire.proofs.Said.{num-got}
 use Rattle.wire.proofs.RoundTrip.{Reads}
 use Rattle.wire.proofs.Splices.{splice-cons}
 use Rattle.wire.proofs.Puts.{puts-same}
@@ -73,6 +76,31 @@ varint-gives s at end b =
     gives-bind _ _
     (gives-pick (leb (end - at) (leading 8 (getD s at 0))) (λ g. gives-bad _ _) (λ g.
     gives-got _ _ (varint-fits s at end _ b refl (leb-false _ _ g))))))
+
+-- a varint that the code has read ends before the end, which is not past the slice
+pub varint-within : (r : Num) (s : List ℕ) (at end v n : ℕ) → saidNum r ≡ varintAt s at end → r ≡ Number v n → n ≤ end
+unfolding varintAt
+varint-within r s at end v n e f =
+    gives-is
+    {P = λ x m. m ≤ end}
+    (gives-pick (ltb (length s) end) (λ d. gives-bad _ _) (λ d.
+    gives-pick (leb end at) (λ g. gives-bad _ _) (λ g.
+    gives-bind _ _
+    (gives-pick (leb (end - at) (leading 8 (getD s at 0))) (λ h. gives-bad _ _) (λ h.
+    gives-got _ _ (omega (arith, leb-false end at g, leb-false (end - at) (leading 8 (getD s at 0)) h)))))))
+    (num-got r _ v n e f)
+
+pub varint-inside : (r : Num) (s : List ℕ) (at end v n : ℕ) → saidNum r ≡ varintAt s at end → r ≡ Number v n → end ≤ length s
+unfolding varintAt
+varint-inside r s at end v n e f =
+    gives-is
+    {P = λ x m. end ≤ length s}
+    (gives-pick (ltb (length s) end) (λ d. gives-bad _ _) (λ d.
+    gives-pick (leb end at) (λ g. gives-bad _ _) (λ g.
+    gives-bind _ _
+    (gives-pick (leb (end - at) (leading 8 (getD s at 0))) (λ h. gives-bad _ _) (λ h.
+    gives-got _ _ (ltb-false (length s) end d))))))
+    (num-got r _ v n e f)
 
 -- ---- round trip: the number x in the form of which n bytes follow the first, at least as many as it needs, is read
 implied : (a b : Bool) → a ≡ true → T (implies a b) → T b

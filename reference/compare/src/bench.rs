@@ -1,0 +1,106 @@
+//! `compare bench`: the library's time against the reference's.
+
+use std::time::Instant;
+
+use reference::rng::Rng;
+use reference::varint;
+
+use crate::library::varint_read_words;
+use crate::Failed;
+
+const SIZE: usize = 100_000_000;
+const ROUNDS: u32 = 5;
+
+pub fn bench() -> Result<(), Failed> {
+    println!(
+        "best of {ROUNDS} over {SIZE} bytes; each varint is one call: of the library through C, \
+         of the reference through a function that is not inlined and fills the same words"
+    );
+    let one: fn(&mut Rng) -> usize = |_| 1;
+    bench_varints("varints of 1 byte", one)?;
+    bench_varints("varints of mostly 1 to 3 bytes", |rng| {
+        match rng.below(100) {
+            0..=59 => 1,
+            60..=84 => 2,
+            85..=96 => 3,
+            _ => 4 + rng.index(6),
+        }
+    })?;
+    bench_varints("varints of 1 to 9 bytes evenly", |rng| 1 + rng.index(9))
+}
+
+/// The reference's read as the library's is called.
+#[inline(never)]
+fn reference_words(bytes: &[u8], at: usize, end: usize, words: &mut [u64; 5]) {
+    *words = match varint::read_at(bytes, at, end) {
+        Ok((value, next)) => [0, 0, 0, value, next as u64],
+        Err(refusal) => [u64::from(refusal.number), 3, refusal.place, 0, 0],
+    };
+}
+
+/// Shortest forms of the lengths that `length` draws.
+fn varints(length: impl Fn(&mut Rng) -> usize) -> Vec<u8> {
+    let mut rng = Rng::new(1);
+    let mut bytes = Vec::with_capacity(SIZE + varint::MAX_LEN);
+    while bytes.len() < SIZE {
+        let total = length(&mut rng);
+        let (low, high) = match total {
+            1 => (0, 1 << 7),
+            9 => (1 << 56, u64::MAX),
+            _ => (1 << (7 * (total - 1)), 1u64 << (7 * total)),
+        };
+        varint::write(&mut bytes, low + rng.below(high - low));
+    }
+    bytes
+}
+
+fn bench_varints(name: &str, length: impl Fn(&mut Rng) -> usize) -> Result<(), Failed> {
+    let bytes = varints(length);
+    let library = read_all(&bytes, varint_read_words)?;
+    let reference = read_all(&bytes, reference_words)?;
+    if (library.count, library.sum) != (reference.count, reference.sum) {
+        return Err(Failed::new(format!(
+            "{name}: the library reads other numbers"
+        )));
+    }
+    println!(
+        "{name}: library {:.3} s, reference {:.3} s, ratio {:.2} ({} varints)",
+        library.best,
+        reference.best,
+        library.best / reference.best,
+        library.count
+    );
+    Ok(())
+}
+
+struct Read {
+    best: f64,
+    count: u64,
+    sum: u64,
+}
+
+#[inline(always)]
+fn read_all(
+    bytes: &[u8],
+    call: impl Fn(&[u8], usize, usize, &mut [u64; 5]),
+) -> Result<Read, Failed> {
+    let mut best = f64::INFINITY;
+    let (mut count, mut sum) = (0, 0u64);
+    for _ in 0..ROUNDS {
+        (count, sum) = (0, 0);
+        let mut words = [0; 5];
+        let mut at = 0;
+        let start = Instant::now();
+        while at < bytes.len() {
+            call(bytes, at, bytes.len(), &mut words);
+            if words[0] != 0 {
+                return Err(Failed::new(format!("refused at {at}: {words:?}")));
+            }
+            sum = sum.wrapping_add(words[3]);
+            at = words[4] as usize;
+            count += 1;
+        }
+        best = best.min(start.elapsed().as_secs_f64());
+    }
+    Ok(Read { best, count, sum })
+}

@@ -1,0 +1,49 @@
+//! The calls of the library, a file for each kind.
+//!
+//! A case is one of the batch container's (`README.md` of the reference), an
+//! answer its line there.  So whatever is compared can be stored and replayed.
+
+use reference::batch::answer::answer;
+use reference::batch::{Call, Case};
+use reference::rng::Rng;
+
+mod varint;
+
+/// One kind of calls.
+pub trait Kind {
+    fn name(&self) -> &'static str;
+
+    /// How many cases a run makes if it is not told.
+    fn count(&self) -> u64;
+
+    /// A case, sound or damaged.
+    fn generate(&self, rng: &mut Rng) -> Case;
+
+    /// The library's answer line, or nothing for a call of another kind.
+    fn library(&self, call: &Call, full: bool) -> Option<String>;
+
+    /// The reference's answer line.
+    fn reference(&self, call: &Call, full: bool) -> String {
+        answer(call, full)
+    }
+
+    /// Calls with slices at and over the limit, which no container holds.
+    fn limits(&self) -> Vec<Limit>;
+}
+
+/// A call at the limit: what it is, and both answers.
+pub struct Limit {
+    pub what: &'static str,
+    pub library: String,
+    pub reference: String,
+}
+
+/// The kinds that the library has so far.
+pub fn all() -> Vec<Box<dyn Kind>> {
+    vec![Box::new(varint::Varint)]
+}
+
+/// The library's answer line to any call, or nothing if it has none such yet.
+pub fn library(call: &Call, full: bool) -> Option<String> {
+    all().iter().find_map(|kind| kind.library(call, full))
+}

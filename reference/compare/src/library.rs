@@ -1,0 +1,203 @@
+//! The proved library's calls through C, one safe function each.
+//!
+//! Every answer starts with three words: number, slice and place.  All three
+//! are 0 where the call took what it was given; else the words behind are 0.
+
+use std::fmt;
+
+use reference::{Part, Refusal, Side, Slice};
+
+extern "C" {
+    fn sstable_varint_read(
+        bytes: *const u8,
+        bytes_len: usize,
+        at: usize,
+        end: usize,
+        answer: *mut [u64; 5],
+    );
+    fn sstable_varint_len(value: u64) -> usize;
+    fn sstable_varint_put(out: *mut u8, out_len: usize, value: u64, answer: *mut [u64; 4]);
+}
+
+/// Why a call has no answer.
+#[derive(Debug, PartialEq, Eq)]
+pub enum Fault {
+    Refused(Refusal),
+    /// What no answer may be: words of another form, or a lent byte changed.
+    Broken(String),
+}
+
+pub type Answer<T> = Result<T, Fault>;
+
+impl fmt::Display for Fault {
+    fn fmt(&self, f: &mut fmt::Formatter<'_>) -> fmt::Result {
+        match self {
+            Fault::Refused(refusal) => refusal.fmt(f),
+            Fault::Broken(what) => write!(f, "broken answer: {what}"),
+        }
+    }
+}
+
+/// Words that no call leaves in an answer.
+const UNTOUCHED: u64 = 0xA5A5_A5A5_A5A5_A5A5;
+
+/// The varint of `bytes` at `at`, in a region that ends at `end`: its value and
+/// the place behind it.
+#[inline]
+pub fn varint_read(bytes: &[u8], at: usize, end: usize) -> Answer<(u64, usize)> {
+    let mut words = [UNTOUCHED; 5];
+    varint_read_words(bytes, at, end, &mut words);
+    taken(&words).map(|rest| (rest[0], rest[1] as usize))
+}
+
+/// The same, the answer's words as they are.
+#[inline]
+pub fn varint_read_words(bytes: &[u8], at: usize, end: usize, words: &mut [u64; 5]) {
+    // SAFETY: pointer and length are those of a slice, the answer has room for
+    // five words, and the library takes any `at` and `end`.
+    unsafe { sstable_varint_read(bytes.as_ptr(), bytes.len(), at, end, words) }
+}
+
+/// The length of a number's shortest form.
+pub fn varint_len(value: u64) -> usize {
+    // SAFETY: numbers alone.
+    unsafe { sstable_varint_len(value) }
+}
+
+/// Stores the shortest form of `value` at the start of `output`; its length.
+pub fn varint_put(output: &mut [u8], value: u64) -> Answer<usize> {
+    let mut words = [UNTOUCHED; 4];
+    // SAFETY: pointer and length are those of a slice lent for writing, and the
+    // answer has room for four words.
+    unsafe { sstable_varint_put(output.as_mut_ptr(), output.len(), value, &mut words) };
+    taken(&words).map(|rest| rest[0] as usize)
+}
+
+/// The words behind the first three, or the refusal that those give.
+fn taken(words: &[u64]) -> Answer<&[u64]> {
+    let (head, rest) = words.split_at(3);
+    let told = match *head {
+        [0, 0, 0] => return Ok(rest),
+        [number, slice, place] if rest.iter().all(|&word| word == 0) => {
+            refusal(number, slice, place)
+        }
+        _ => None,
+    };
+    Err(match told {
+        Some(refusal) => Fault::Refused(refusal),
+        None => Fault::Broken(format!("words {words:?}")),
+    })
+}
+
+fn refusal(number: u64, slice: u64, place: u64) -> Option<Refusal> {
+    let part = match slice & 15 {
+        1 => Part::Statistics,
+        2 => Part::Scylla,
+        3 => Part::Data,
+        4 => Part::Schema,
+        5 => Part::Records,
+        6 => Part::Bytes,
+        7 => Part::Output,
+        8 => Part::Bases,
+        9 => Part::State,
+        _ => return None,
+    };
+    let side = match slice - (slice & 15) {
+        0 => Side::Only,
+        16 => Side::A,
+        32 => Side::B,
+        _ => return None,
+    };
+    let number = u8::try_from(number).ok().filter(|n| (1..=17).contains(n))?;
+    Some(Refusal {
+        number,
+        slice: Slice { part, side },
+        place,
+    })
+}
+
+/// Bytes on either side of a lent buffer, which no call may touch.
+const BESIDE: usize = 16;
+
+/// What a lent buffer holds before a call.
+fn held(index: usize) -> u8 {
+    (index as u8).wrapping_mul(31).wrapping_add(7)
+}
+
+/// Lends `call` a buffer of `len` bytes and hands back what it stored at the
+/// buffer's start.  All other bytes must hold what they held before, every one
+/// of them after a refusal.
+pub fn lend(len: usize, call: impl FnOnce(&mut [u8]) -> Answer<usize>) -> Answer<Vec<u8>> {
+    let mut all: Vec<u8> = (0..BESIDE + len + BESIDE).map(held).collect();
+    let answer = call(&mut all[BESIDE..BESIDE + len]);
+    let stored = match answer {
+        Ok(stored) if stored > len => {
+            return Err(Fault::Broken(format!("{stored} bytes stored in {len}")))
+        }
+        Ok(stored) => stored,
+        Err(Fault::Refused(_)) => 0,
+        Err(broken) => return Err(broken),
+    };
+    let kept = |(i, &byte): (usize, &u8)| (BESIDE..BESIDE + stored).contains(&i) || byte == held(i);
+    if let Some(i) = all.iter().enumerate().position(|pair| !kept(pair)) {
+        let place = i as i64 - BESIDE as i64;
+        let what = match &answer {
+            Ok(stored) => format!("{stored} bytes stored"),
+            Err(fault) => fault.to_string(),
+        };
+        return Err(Fault::Broken(format!(
+            "byte {place} of output changed, {what}"
+        )));
+    }
+    answer.map(|stored| all[BESIDE..BESIDE + stored].to_vec())
+}
+
+#[cfg(test)]
+mod tests {
+    use super::*;
+
+    fn told(words: &[u64]) -> String {
+        taken(words).unwrap_err().to_string()
+    }
+
+    #[test]
+    fn answers_of_words() {
+        assert_eq!(taken(&[0, 0, 0, 7, 8]), Ok(&[7, 8][..]));
+        assert_eq!(told(&[2, 3, 9, 0, 0]), "refused 2 data 9");
+        assert_eq!(told(&[11, 16 + 4, 0, 0]), "refused 11 schemaA 0");
+        assert_eq!(told(&[9, 32 + 3, 29, 0]), "refused 9 dataB 29");
+        for broken in [
+            [0, 3, 0, 0],
+            [0, 0, 5, 0],
+            [2, 3, 9, 1],
+            [2, 0, 9, 0],
+            [2, 48 + 3, 9, 0],
+            [99, 3, 9, 0],
+            [UNTOUCHED; 4],
+        ] {
+            assert!(told(&broken).starts_with("broken answer"));
+        }
+    }
+
+    #[test]
+    fn lent_bytes_are_looked_at() {
+        let refused = || Fault::Refused(Refusal::new(13, Part::Output, 9));
+        let stored = lend(4, |lent| {
+            lent[..2].copy_from_slice(&[1, 2]);
+            Ok(2)
+        });
+        assert_eq!(stored, Ok(vec![1, 2]));
+        assert_eq!(lend(4, |_| Err(refused())), Err(refused()));
+        let beside = lend(4, |lent| {
+            lent[2] ^= 1;
+            Ok(2)
+        });
+        assert!(matches!(beside, Err(Fault::Broken(_))));
+        let after_refusal = lend(4, |lent| {
+            lent[0] ^= 1;
+            Err(refused())
+        });
+        assert!(matches!(after_refusal, Err(Fault::Broken(_))));
+        assert!(matches!(lend(4, |_| Ok(5)), Err(Fault::Broken(_))));
+    }
+}

@@ -1,0 +1,120 @@
+//! `compare run`: cases at random through the library and the reference.
+
+use std::fs;
+
+use reference::batch::answer::hex;
+use reference::batch::{encode_cases, parse, Case};
+use reference::rng::Rng;
+
+use crate::kinds::{self, Kind};
+use crate::Failed;
+
+/// What to run.
+pub struct Plan {
+    pub seed: u64,
+    /// The first case's index.
+    pub from: u64,
+    /// How many of each kind, if not its own count.
+    pub count: Option<u64>,
+    pub kind: Option<String>,
+}
+
+pub fn run(plan: &Plan) -> Result<(), Failed> {
+    let mut compared = 0;
+    let chosen = |kind: &dyn Kind| plan.kind.as_deref().is_none_or(|name| name == kind.name());
+    for kind in kinds::all().iter().filter(|kind| chosen(kind.as_ref())) {
+        compared += run_limits(kind.as_ref())?;
+        let count = plan.count.unwrap_or(kind.count());
+        for index in plan.from..plan.from.saturating_add(count) {
+            run_one(kind.as_ref(), plan.seed, index)?;
+        }
+        compared += count;
+    }
+    if compared == 0 {
+        let names: Vec<&str> = kinds::all().iter().map(|kind| kind.name()).collect();
+        return Err(Failed::new(format!(
+            "no such kind; there is {}",
+            names.join(", ")
+        )));
+    }
+    println!("compared {compared} cases, 0 differences");
+    Ok(())
+}
+
+/// Case `index` of seed `seed`: nothing else has a part in it.
+fn case_of(kind: &dyn Kind, seed: u64, index: u64) -> Case {
+    // splitmix64 of both, so that neighbours have nothing in common.
+    let mut mixed = index.wrapping_add(seed.wrapping_mul(0x9E37_79B9_7F4A_7C15));
+    mixed = (mixed ^ (mixed >> 30)).wrapping_mul(0xBF58_476D_1CE4_E5B9);
+    mixed = (mixed ^ (mixed >> 27)).wrapping_mul(0x94D0_49BB_1331_11EB);
+    kind.generate(&mut Rng::new(mixed ^ (mixed >> 31)))
+}
+
+fn run_one(kind: &dyn Kind, seed: u64, index: u64) -> Result<(), Failed> {
+    let case = case_of(kind, seed, index);
+    let lent = case.lent();
+    let call = parse(case.kind, &lent).map_err(Failed::new)?;
+    let library = kind.library(&call, true).expect("a call of its own kind");
+    let reference = kind.reference(&call, true);
+    if library == reference {
+        return Ok(());
+    }
+    println!(
+        "difference: kind {}, seed {seed}, case {index}",
+        kind.name()
+    );
+    println!("  container kind {}", case.kind);
+    for (i, blob) in case.blobs.iter().enumerate() {
+        println!("  blob {i}, {} bytes: {}", blob.len(), hex(blob));
+    }
+    println!("  library:   {library}");
+    println!("  reference: {reference}");
+    let path = format!("difference-{seed}-{index}.batch");
+    fs::write(&path, encode_cases(&[case]))?;
+    println!("written to {path}; to see both answers again:");
+    println!("  compare batch {path} --full");
+    println!("  reference batch {path} --full");
+    let again = format!(
+        "--kind {} --seed {seed} --from {index} --count 1",
+        kind.name()
+    );
+    println!("or: compare run {again}");
+    Err(Failed::told())
+}
+
+/// Slices at and over the limit, which are too large for a container.
+fn run_limits(kind: &dyn Kind) -> Result<u64, Failed> {
+    let limits = kind.limits();
+    for limit in &limits {
+        if limit.library != limit.reference {
+            println!("difference: kind {}, {}", kind.name(), limit.what);
+            println!("  library:   {}", limit.library);
+            println!("  reference: {}", limit.reference);
+            println!(
+                "to see it again: compare run --kind {} --count 0",
+                kind.name()
+            );
+            return Err(Failed::told());
+        }
+    }
+    Ok(limits.len() as u64)
+}
+
+#[cfg(test)]
+mod tests {
+    use super::*;
+
+    #[test]
+    fn a_case_depends_on_seed_and_index_alone() {
+        for kind in kinds::all() {
+            let made: Vec<Case> = (0..50).map(|i| case_of(kind.as_ref(), 3, i)).collect();
+            let again: Vec<Case> = (0..50).map(|i| case_of(kind.as_ref(), 3, i)).collect();
+            assert_eq!(made, again);
+            let other: Vec<Case> = (0..50).map(|i| case_of(kind.as_ref(), 4, i)).collect();
+            assert_ne!(made, other);
+            assert!(made
+                .iter()
+                .all(|case| parse(case.kind, &case.lent()).is_ok()));
+        }
+    }
+}
