@@ -5,14 +5,14 @@ use mathlib.Core.List.{List, [], _++_, append-nil}
 use Prim.Native.Nat.{ℕ, _+_, _-_, _^_, _≤_, _<_}
 use native.Mathlib.Omega.{arith}
 use native.Mathlib.Nat.{add-zero}
-use borrow.Author.Tests.{le-leb, lt-leb}
+use borrow.Author.Tests.{le-leb, lt-leb, le-ltb}
 use lib.Dec.{leb}
-use lib.ListN.{length, getD, set, take, length-append, length-set, length-take, length-drop, take-append-drop}
+use lib.ListN.{length, getD, set, take, drop, length-append, length-set, length-take, length-drop, take-append-drop}
 use lib.Seq.{getD-take, getD-drop}
 use mir.Syntax.{w64}
 use mir.Val.{Fits}
 use Rattle.wire.specs.Choose.{pick}
-use Rattle.wire.specs.Store.{splice, part, Room, Puts, stored, storing, Stores}
+use Rattle.wire.specs.Store.{splice, part, Room, Puts, stored, storing, Stores, shown}
 use Rattle.wire.specs.declared.number.Stored.{Stored}
 use Rattle.wire.specs.declared.number.Stored.the-variants.{At, Full}
 use Rattle.wire.proofs.Choose.{pick-yes, pick-no}
@@ -120,3 +120,10 @@ length-part s start len h = simp (length-take, length-drop) (omega arith)
 pub part-at : (s : List ℕ) (start len i : ℕ) → i < len → getD s (start + i) 0 ≡ getD (part s start len) i 0
 unfolding part
 part-at s start len i h = rw (getD-take, getD-drop)
+
+-- a part, as a range of a slice gives it
+pub shown-whole : (s : List ℕ) (start len : ℕ) → start ≤ length s → len ≤ length s - start → take (start + len - start) (drop start s) ≡ shown s start len
+unfolding shown part
+shown-whole s start len h k =
+    let e : start + len - start ≡ len = omega arith in
+    rw e (pick-no _ _ _ _ (le-ltb (length s) start h) (pick-no _ _ _ _ (le-ltb (length s - start) len k) refl))

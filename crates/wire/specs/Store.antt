@@ -1,9 +1,9 @@
 -- Bytes that are stored into a slice, and parts of one. Assumes nothing.
-use Prim.Native.Nat.{ℕ, _+_, _≤_}
+use Prim.Native.Nat.{ℕ, _+_, _-_, _≤_}
 use mathlib.Core.Path.{_≡_}
-use mathlib.Core.List.{List, _++_}
+use mathlib.Core.List.{List, [], _++_}
 use lib.ListN.{length, take, drop}
-use lib.Dec.{leb}
+use lib.Dec.{ltb, leb}
 use Rattle.wire.specs.Choose.{pick}
 use Rattle.wire.specs.declared.number.Stored.{Stored}
 use Rattle.wire.specs.declared.number.Stored.the-variants.{At, Full}
@@ -15,6 +15,10 @@ splice d at w = take at d ++ w ++ drop (at + length w) d
 -- the len elements of s from start on
 unfoldable pub part : List ℕ → ℕ → ℕ → List ℕ
 part s start len = take len (drop start s)
+
+-- the len elements of s from start on, where they lie in s; else none
+unfoldable pub shown : List ℕ → ℕ → ℕ → List ℕ
+shown s start len = pick (ltb (length s) start) [] (pick (ltb (length s - start) len) [] (part s start len))
 
 -- w fits into d from place at on
 pub record Room (d : List ℕ) (at : ℕ) (w : List ℕ) : Type 0 where

@@ -2,10 +2,10 @@ use Prim.Native.Nat.{_-_}
 use Rattle.wire.specs.Store.{part}
 use Rattle.wire.proofs.Puts.{Storing, stores, length-part, part-at}
 use borrow.Author.Needs.{needs}
-use Rattle.wire.proofs.copy.put_part.Statement.{statement}
-use Rattle.wire.proofs.copy.put_part.Tie as tie
-use Rattle.wire.proofs.copy.put_part.Reads as reads
-use Rattle.wire.proofs.copy.put_part.Lts as lts
+use Rattle.wire.proofs.part.put_part.Statement.{statement}
+use Rattle.wire.proofs.part.put_part.Tie as tie
+use Rattle.wire.proofs.part.put_part.Reads as reads
+use Rattle.wire.proofs.part.put_part.Lts as lts
 
 abbrev Inv-loop : tie.InvT-loop
 Inv-loop d₀ at s start len i₀ d i = Storing (part s start len) d₀ d at i

@@ -1,0 +1,98 @@
+-- The fields of a record, as the code reads them. Assumes nothing.
+use mathlib.Core.Path.{_≡_, refl, sym, ap, _∙_}
+use mathlib.Core.Bool.{Bool, true, false}
+use mathlib.Core.List.{List}
+use Prim.Native.Nat.{ℕ, _+_, _*_, _/_, _≤_, _<_}
+use native.Mathlib.Omega.{arith}
+use lib.ListN.{length, getD}
+use Rattle.wire.specs.BigEndian.{bigEndian}
+use Rattle.wire.specs.Store.{shown}
+use Rattle.types.specs.Text.{same}
+use Rattle.schema.specs.Records.{roleAt, lineAt, markAt, widthAt, nameAt, nameLenAt, zerosAt, isKindOf, isNameOf, given, countOf, mostOf, inTurn, isFirst, isPassed}
+use Rattle.schema.specs.Columns.{columnAt, columnOf, nameOf, sameColumn}
+use Rattle.wire.specs.Choose.{pick, bind}
+use lib.Dec.{ltb, eqb}
+use borrow.Author.Tests.{ltb-true, eq-eqb, ne-eqb, lt-leb}
+use mir.Syntax.{w64}
+use mir.Val.{Fits}
+use Rattle.wire.proofs.Choose.{pick-yes, pick-no}
+use Rattle.schema.specs.declared.records.Counts.{Counts}
+use Rattle.schema.specs.declared.columns.Column.{Column}
+use Rattle.schema.specs.declared.columns.Found.the-variants.{Is}
+
+-- ---- whether Statistics gives the record at at
+module _ (limit : ℕ) (s : List ℕ) (at : ℕ) (k : Bool) (e : k ≡ isKindOf (getD s at 0) (getD s (at + 1) 0) (getD s (at + 2) 0) (getD s (at + 3) 0)) where
+  pub given-kind : k ≡ false → false ≡ given limit s at
+  unfolding given roleAt lineAt markAt widthAt
+  given-kind f = pick-no _ _ _ _ (sym e ∙ f) refl
+
+  module _ (f : k ≡ true) (name len : ℕ) (m : Bool) (g : name ≡ bigEndian 0 s (at + 4) 4) (h : len ≡ bigEndian 0 s (at + 8) 4) (i : m ≡ isNameOf limit (getD s at 0) name len) where
+    pub given-name : m ≡ false → false ≡ given limit s at
+    unfolding given roleAt lineAt markAt widthAt nameAt nameLenAt
+    given-name j = pick-yes _ _ _ _ (sym e ∙ f) (pick-no _ _ _ _ (rw (g, h) at (sym i ∙ j)) refl)
+
+    pub given-all : (z : ℕ) → m ≡ true → z ≡ bigEndian 0 s (at + 12) 4 → eqb z 0 ≡ given limit s at
+    unfolding given roleAt lineAt markAt widthAt nameAt nameLenAt zerosAt
+    given-all z j l = pick-yes _ _ _ _ (sym e ∙ f) (pick-yes _ _ _ _ (rw (g, h) at (sym i ∙ j)) (ap (λ (x : ℕ). eqb x 0) l))
+
+pub ruleset gives-record = (given-kind, given-name, given-all)
+
+-- ---- a column
+pub column-is : (s : List ℕ) (at name len : ℕ) → name ≡ bigEndian 0 s (at + 4) 4 → len ≡ bigEndian 0 s (at + 8) 4
+    → _≡_ {A = Column} (record { role = getD s at 0; line = getD s (at + 1) 0; reversed = getD s (at + 2) 0; width = getD s (at + 3) 0; name = name; len = len }) (columnAt s at)
+unfolding columnAt roleAt lineAt markAt widthAt nameAt nameLenAt
+column-is s at name len e f = rw (e, f)
+
+pub name-is : (t s : List ℕ) (at name len : ℕ) (r : List ℕ) → name ≡ bigEndian 0 s (at + 4) 4 → len ≡ bigEndian 0 s (at + 8) 4 → r ≡ shown t name len → r ≡ nameOf t s at
+unfolding nameOf nameAt nameLenAt
+name-is t s at name len r e f g = g ∙ rw (e, f)
+
+-- ---- a record in turn has room in its count
+most-le : (role : ℕ) (a b : Bool) → pick a 1 (pick b 32 63) ≤ 63
+unfolding pick
+most-le role true b = omega arith
+most-le role false true = omega arith
+most-le role false false = omega arith
+
+turned : (a b c : Bool) → pick a (pick b false c) false ≡ true → c ≡ true
+unfolding pick
+turned true true c e = cc
+turned true false c e = e
+turned false b c e = cc
+
+pub turn-room : (role : ℕ) (c : Counts) (t : Bool) → t ≡ inTurn role c → t ≡ true → countOf role c < 63
+unfolding inTurn mostOf bind
+turn-room role c t e f =
+    let g : ltb (countOf role c) (mostOf role) ≡ true = turned (isFirst role c) (isPassed role c) _ (sym e ∙ f) in
+    omega (arith, ltb-true (countOf role c) (mostOf role) g, most-le role (eqb role 0) (eqb role 1))
+
+-- one more of the role's count fits
+module _ (role : ℕ) (c : Counts) (h : countOf role c < 63) where
+  pub keys-fit : role ≡ 0 → Fits w64 (c .keys + 1)
+  unfolding countOf pick
+  keys-fit e = omega (arith, simp (eq-eqb role 0 e) at h)
+
+  pub clustering-fit : (role ≡ 0 → ⊥) → role ≡ 1 → Fits w64 (c .clustering + 1)
+  unfolding countOf pick
+  clustering-fit n e = omega (arith, simp (ne-eqb role 0 n, eq-eqb role 1 e) at h)
+
+  pub statics-fit : (role ≡ 0 → ⊥) → (role ≡ 1 → ⊥) → role ≡ 2 → Fits w64 (c .statics + 1)
+  unfolding countOf pick
+  statics-fit n m e = omega (arith, simp (ne-eqb role 0 n, ne-eqb role 1 m, eq-eqb role 2 e) at h)
+
+  pub regulars-fit : (role ≡ 0 → ⊥) → (role ≡ 1 → ⊥) → (role ≡ 2 → ⊥) → Fits w64 (c .regulars + 1)
+  unfolding countOf pick
+  regulars-fit n m l = omega (arith, simp (ne-eqb role 0 n, ne-eqb role 1 m, ne-eqb role 2 l) at h)
+
+pub ruleset one-more = (keys-fit, clustering-fit, statics-fit, regulars-fit)
+
+-- ---- columns
+pub found-at : (s : List ℕ) (i : ℕ) (c : Column) → i < length s / 16 → c ≡ columnAt s (16 * i) → Is c ≡ columnOf s i
+unfolding columnOf
+found-at s i c h e = pick-no _ _ _ _ (lt-leb _ _ h) (ap Is e)
+
+pub same-at : (s t v u : List ℕ) (at : ℕ) (x y : List ℕ) (r : Bool) → getD s at 0 ≡ getD v at 0 → getD s (at + 1) 0 ≡ getD v (at + 1) 0 → getD s (at + 2) 0 ≡ getD v (at + 2) 0
+    → x ≡ nameOf t s at → y ≡ nameOf u v at → r ≡ same x y → r ≡ sameColumn s t v u at
+unfolding sameColumn roleAt lineAt markAt
+same-at s t v u at x y r e f g h i j =
+    pick-yes _ _ _ _ (eq-eqb _ _ e) (pick-yes _ _ _ _ (eq-eqb _ _ f) (pick-yes _ _ _ _ (eq-eqb _ _ g) (j ∙ rw (h, i))))

@@ -1,0 +1,4 @@
+pub mod Said
+pub mod Checks
+pub mod Fields
+pub mod Loops

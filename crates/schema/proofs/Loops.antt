@@ -1,0 +1,158 @@
+-- The loops over the records. Assumes nothing.
+use mathlib.Core.Path.{_≡_, refl, sym, ap, _∙_}
+use mathlib.Core.Bool.{Bool, true, false}
+use mathlib.Core.List.{List}
+use Prim.Native.Nat.{ℕ, zero, suc, _+_, _-_, _*_, _/_, _^_, _≤_, _<_}
+use native.Mathlib.Omega.{arith}
+use borrow.Author.Tests.{lt-ltb, le-ltb, eq-eqb, ne-eqb}
+use lib.Dec.{ltb, eqb}
+use lib.ListN.{length, getD}
+use mir.Syntax.{w64}
+use mir.Val.{Fits}
+use Rattle.wire.specs.Choose.{pick}
+use Rattle.wire.specs.Got.{Got, got, bad, on}
+use Rattle.wire.specs.declared.refusal.Fault.the-variants.{BadRecord}
+use Rattle.wire.proofs.Choose.{pick-yes, pick-no}
+use Rattle.types.specs.Table.{lineOf}
+use Rattle.schema.specs.Records.{roleAt, lineAt, none, given, inTurn, withOne, recordAt, recordsAt, schemaAt, saidFound}
+use Rattle.schema.specs.Columns.{sameColumn, sameFrom, sameSchemas, unorderedFrom, unorderedOf}
+use Rattle.schema.specs.declared.records.Counts.{Counts}
+use Rattle.schema.specs.declared.records.Found.{Found}
+use Rattle.schema.specs.declared.records.Found.the-variants.{Records, Bad}
+use Rattle.schema.specs.declared.columns.Unordered.{Unordered}
+use Rattle.schema.specs.declared.columns.Unordered.the-variants.{At, None}
+
+-- ---- checking: the records before at are counted in c
+pub record Checking (limit : ℕ) (s : List ℕ) (c : Counts) (at : ℕ) : Type 0 where
+  pub rest : recordsAt limit ((length s + 15 - at) / 16) c s at (length s) ≡ schemaAt limit s
+
+module _ (limit : ℕ) (s : List ℕ) where
+  pub checking-empty : length s ≡ 0 → saidFound (Bad BadRecord 0) ≡ schemaAt limit s
+  unfolding schemaAt saidFound
+  checking-empty e = pick-yes _ _ _ _ (rw e refl) refl
+
+  pub checking-none : (length s ≡ 0 → ⊥) → Checking limit s none 0
+  unfolding schemaAt
+  checking-none n = record { rest = pick-no _ _ _ _ (ne-eqb _ _ n) (ap (λ (k : ℕ). recordsAt limit k none s 0 (length s)) (omega arith)) }
+
+  module _ (c : Counts) (at : ℕ) (h : Checking limit s c at) where
+    pub checking-end : length s ≤ at → saidFound (Records c at) ≡ schemaAt limit s
+    unfolding saidFound recordsAt
+    checking-end l =
+        let e : (length s + 15 - at) / 16 ≡ 0 = omega arith in
+        rw e at (h .rest)
+
+    module _ (l : at < length s) where
+      next : (length s + 15 - at) / 16 ≡ suc ((length s + 15 - (at + 16)) / 16)
+      next = omega arith
+
+      step : on (recordAt limit c s at (length s)) (λ d n. recordsAt limit ((length s + 15 - (at + 16)) / 16) d s n (length s)) ≡ schemaAt limit s
+      unfolding recordsAt
+      step = ap (λ (k : ℕ). recordsAt limit k c s at (length s)) (sym next) ∙ h .rest
+
+      refuse : bad BadRecord at ≡ recordAt limit c s at (length s) → saidFound (Bad BadRecord at) ≡ schemaAt limit s
+      unfolding saidFound on
+      refuse e = rw (← e) at step
+
+      pub checking-cut : length s - at < 16 → saidFound (Bad BadRecord at) ≡ schemaAt limit s
+      unfolding recordAt
+      checking-cut k = refuse (pick-yes _ _ _ _ (lt-ltb _ _ k) refl)
+
+      module _ (k : 16 ≤ length s - at) (g : Bool) (e : g ≡ given limit s at) where
+        pub checking-wrong : g ≡ false → saidFound (Bad BadRecord at) ≡ schemaAt limit s
+        unfolding recordAt
+        checking-wrong f = refuse (pick-no _ _ _ _ (le-ltb _ _ k) (pick-no _ _ _ _ (sym e ∙ f) refl))
+
+        module _ (f : g ≡ true) (t : Bool) (i : t ≡ inTurn (getD s at 0) c) where
+          pub checking-turn : t ≡ false → saidFound (Bad BadRecord at) ≡ schemaAt limit s
+          unfolding recordAt roleAt
+          checking-turn j = refuse (pick-no _ _ _ _ (le-ltb _ _ k) (pick-yes _ _ _ _ (sym e ∙ f) (pick-no _ _ _ _ (sym i ∙ j) refl)))
+
+          pub checking-more : (d : Counts) → t ≡ true → d ≡ withOne (getD s at 0) c → Checking limit s d (at + 16)
+          unfolding recordAt roleAt on
+          checking-more d j m =
+              let r : got d (at + 16) ≡ recordAt limit c s at (length s) =
+              pick-no _ _ _ _ (le-ltb _ _ k) (pick-yes _ _ _ _ (sym e ∙ f) (pick-yes _ _ _ _ (sym i ∙ j) (ap (λ (x : Counts). got x (at + 16)) m))) in
+              record { rest = rw (← r) at step }
+
+pub ruleset checking = (checking-empty, checking-none, checking-end, checking-cut, checking-wrong, checking-turn, checking-more)
+
+-- ---- two schemas: the first i records are equal
+pub record Alike (s t v u : List ℕ) (n i : ℕ) : Type 0 where
+  pub within : i ≤ n
+  pub rest : sameFrom (n - i) s t v u (16 * i) ≡ sameSchemas s t v u
+
+module _ (s t v u : List ℕ) where
+  pub alike-unlike : (length s ≡ length v → ⊥) → false ≡ sameSchemas s t v u
+  unfolding sameSchemas
+  alike-unlike n = pick-no _ _ _ _ (ne-eqb _ _ n) refl
+
+  pub alike-none : (n : ℕ) → length s ≡ length v → n ≡ length s / 16 → Alike s t v u n 0
+  unfolding sameSchemas
+  alike-none n e f = record { within = omega arith; rest = pick-yes _ _ _ _ (eq-eqb _ _ e) (ap (λ (k : ℕ). sameFrom k s t v u 0) (omega arith)) }
+
+  module _ (n i : ℕ) (h : Alike s t v u n i) where
+    pub alike-end : n ≤ i → true ≡ sameSchemas s t v u
+    unfolding sameFrom
+    alike-end l =
+        let e : n - i ≡ 0 = omega arith in
+        rw e at (h .rest)
+
+    module _ (l : i < n) (r : Bool) (e : r ≡ sameColumn s t v u (16 * i)) where
+      same-step : pick (sameColumn s t v u (16 * i)) (sameFrom (n - (i + 1)) s t v u (16 * i + 16)) false ≡ sameSchemas s t v u
+      unfolding sameFrom
+      same-step =
+          let f : n - i ≡ suc (n - (i + 1)) = omega arith in
+          ap (λ (k : ℕ). sameFrom k s t v u (16 * i)) (sym f) ∙ h .rest
+
+      pub alike-not : r ≡ false → false ≡ sameSchemas s t v u
+      alike-not f = pick-no _ _ _ _ (sym e ∙ f) refl ∙ same-step
+
+      pub alike-more : r ≡ true → Alike s t v u n (i + 1)
+      alike-more f =
+          let g : 16 * i + 16 ≡ 16 * (i + 1) = omega arith in
+          record { within = omega arith; rest = rw (← g) (pick-yes _ _ _ _ (sym e ∙ f) refl ∙ same-step) }
+
+pub ruleset alike = (alike-unlike, alike-none, alike-end, alike-not, alike-more)
+
+-- ---- the first clustering record without an order: none of the first i
+pub record Ordered (s : List ℕ) (n i : ℕ) : Type 0 where
+  pub within : i ≤ n
+  pub rest : unorderedFrom (n - i) s (16 * i) ≡ unorderedOf s
+
+module _ (s : List ℕ) (n : ℕ) (size : n ≡ length s / 16) where
+  pub ordered-none : Ordered s n 0
+  unfolding unorderedOf
+  ordered-none = record { within = omega arith; rest = ap (λ (k : ℕ). unorderedFrom k s 0) (omega arith) }
+
+  module _ (i : ℕ) (h : Ordered s n i) where
+    pub ordered-end : n ≤ i → None ≡ unorderedOf s
+    unfolding unorderedFrom
+    ordered-end l =
+        let e : n - i ≡ 0 = omega arith in
+        rw e at (h .rest)
+
+    module _ (l : i < n) where
+      order-step : pick (eqb (getD s (16 * i) 0) 1)
+          (pick (lineOf (getD s (16 * i + 1) 0) .ordered) (unorderedFrom (n - (i + 1)) s (16 * i + 16)) (At (16 * i)))
+          (unorderedFrom (n - (i + 1)) s (16 * i + 16))
+          ≡ unorderedOf s
+      unfolding unorderedFrom roleAt lineAt
+      order-step =
+          let f : n - i ≡ suc (n - (i + 1)) = omega arith in
+          ap (λ (k : ℕ). unorderedFrom k s (16 * i)) (sym f) ∙ h .rest
+
+      order-next : 16 * i + 16 ≡ 16 * (i + 1)
+      order-next = omega arith
+
+      pub ordered-other : (getD s (16 * i) 0 ≡ 1 → ⊥) → Ordered s n (i + 1)
+      ordered-other m = record { within = omega arith; rest = rw (← order-next) (pick-no _ _ _ _ (ne-eqb _ _ m) refl ∙ order-step) }
+
+      module _ (m : getD s (16 * i) 0 ≡ 1) (r : Bool) (e : r ≡ lineOf (getD s (16 * i + 1) 0) .ordered) where
+        pub ordered-more : r ≡ true → Ordered s n (i + 1)
+        ordered-more f = record { within = omega arith; rest = rw (← order-next) (pick-yes _ _ _ _ (eq-eqb _ _ m) (pick-yes _ _ _ _ (sym e ∙ f) refl) ∙ order-step) }
+
+        pub ordered-not : r ≡ false → At (16 * i) ≡ unorderedOf s
+        ordered-not f = pick-yes _ _ _ _ (eq-eqb _ _ m) (pick-no _ _ _ _ (sym e ∙ f) refl) ∙ order-step
+
+pub ruleset ordered = (ordered-none, ordered-end, ordered-other, ordered-more, ordered-not)

@@ -1,0 +1,4 @@
+pub mod Rest
+pub mod Texts
+pub mod Rows
+pub mod Vectors
