@@ -35,6 +35,14 @@ size_t sstable_varint_len(uint64_t value);
  * Words: 3 the length stored. */
 void sstable_varint_put(uint8_t *out, size_t out_len, uint64_t value, uint64_t answer[4]);
 
+/* A whole Scylla.db. Refuses in scylla: 1 at 0; 2 at a field that its component or the file cuts, or at a size or length that
+ * announces more than is left; 3 at the first byte left over in a component of tag 1 to 4, or after the last component; 4 at an
+ * exclusive flag above 1; 7 at a token length that is not 8; 9 at a known tag's second, or at the flag of a token range's bound
+ * that is not in order.
+ * Words: 3 feature bits, 4 and 5 the high and low half of the run identifier, 6 to 13 offset and length of the bodies of tags 1
+ * (sharding metadata), 2 (features), 3 (extension attributes) and 4 (run identifier), behind tag and size; zeros where absent. */
+void sstable_scylla_read(const uint8_t *file, size_t file_len, uint64_t answer[14]);
+
 #ifdef __cplusplus
 }
 #endif

@@ -7,7 +7,7 @@ use native.Mathlib.Omega.{arith}
 use lib.ListN.{length, getD}
 use Rattle.wire.specs.BigEndian.{bigEndian}
 use Rattle.wire.specs.Store.{shown}
-use Rattle.types.specs.Text.{same}
+use Rattle.typetable.specs.Text.{same}
 use Rattle.schema.specs.Records.{roleAt, lineAt, markAt, widthAt, nameAt, nameLenAt, zerosAt, isKindOf, isNameOf, given, countOf, mostOf, inTurn, isFirst, isPassed}
 use Rattle.schema.specs.Columns.{columnAt, columnOf, nameOf, sameColumn}
 use Rattle.wire.specs.Choose.{pick, bind}

@@ -13,7 +13,7 @@ use Rattle.wire.specs.Choose.{pick}
 use Rattle.wire.specs.Got.{Got, got, bad, on}
 use Rattle.wire.specs.declared.refusal.Fault.the-variants.{BadRecord}
 use Rattle.wire.proofs.Choose.{pick-yes, pick-no}
-use Rattle.types.specs.Table.{lineOf}
+use Rattle.typetable.specs.Table.{lineOf}
 use Rattle.schema.specs.Records.{roleAt, lineAt, none, given, inTurn, withOne, recordAt, recordsAt, schemaAt, saidFound}
 use Rattle.schema.specs.Columns.{sameColumn, sameFrom, sameSchemas, unorderedFrom, unorderedOf}
 use Rattle.schema.specs.declared.records.Counts.{Counts}

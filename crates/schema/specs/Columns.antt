@@ -6,8 +6,8 @@ use lib.Dec.{leb, eqb}
 use lib.ListN.{length}
 use Rattle.wire.specs.Choose.{pick}
 use Rattle.wire.specs.Store.{shown}
-use Rattle.types.specs.Table.{lineOf}
-use Rattle.types.specs.Text.{same}
+use Rattle.typetable.specs.Table.{lineOf}
+use Rattle.typetable.specs.Text.{same}
 use Rattle.schema.specs.Records.{roleAt, lineAt, markAt, widthAt, nameAt, nameLenAt}
 use Rattle.schema.specs.declared.columns.Column.{Column}
 use Rattle.schema.specs.declared.columns.Unordered.{Unordered}

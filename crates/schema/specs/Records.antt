@@ -13,7 +13,7 @@ use Rattle.wire.specs.Refusals.{Outcome, taken, refused, saidRefusal}
 use Rattle.wire.specs.BigEndian.{bigEndian}
 use Rattle.wire.specs.declared.refusal.Fault.the-variants.{OverLimit, BadRecord}
 use Rattle.wire.specs.declared.refusal.Slice.the-variants.{Schema}
-use Rattle.types.specs.Table.{lineOf, isLine, reversedLine}
+use Rattle.typetable.specs.Table.{lineOf, isLine, reversedLine}
 use Rattle.schema.specs.declared.records.Counts.{Counts}
 use Rattle.schema.specs.declared.records.Found.{Found}
 use Rattle.schema.specs.declared.records.Found.the-variants.{Records, Bad}

@@ -70,7 +70,7 @@ fn is_same_column(a: &[u8], t: &[u8], b: &[u8], u: &[u8], at: usize) -> bool
     if a[at] == b[at] {
         if a[at + 1] == b[at + 1] {
             if a[at + 2] == b[at + 2] {
-                return types::text::equal(name_of(t, a, at), name_of(u, b, at));
+                return typetable::text::equal(name_of(t, a, at), name_of(u, b, at));
             }
             return false;
         }
@@ -107,7 +107,7 @@ pub fn first_unordered(schema: &[u8]) -> Unordered
     while i < n {
         let at = 16 * i;
         if schema[at] == 1 {
-            if types::table::is_ordered(schema[at + 1]) {
+            if typetable::is_ordered(schema[at + 1]) {
                 i += 1;
                 continue;
             }

@@ -34,9 +34,9 @@ fn is_line_of(role: u8, line: u8) -> bool
         return false;
     }
     if role < 2 {
-        return types::table::is_line(line);
+        return typetable::is_line(line);
     }
-    types::table::is_of_columns(line)
+    typetable::is_of_columns(line)
 }
 
 // Whether role, line, mark and width go together.
@@ -50,7 +50,7 @@ fn is_kind_of(role: u8, line: u8, mark: u8, width: u8) -> bool
         if 1 < mark {
             return false;
         }
-        return width == types::table::width(line);
+        return width == typetable::width(line);
     }
     false
 }

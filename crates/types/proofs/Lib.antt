@@ -1,4 +1,6 @@
-pub mod Rest
-pub mod Texts
-pub mod Rows
+pub mod Scans
+pub mod Parentheses
+pub mod Answers
+pub mod Carried
+pub mod Spelled
 pub mod Vectors

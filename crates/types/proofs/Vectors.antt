@@ -1,15 +1,14 @@
 -- Type strings of the decisions, as one statement. Assumes nothing.
 use mathlib.Core.Path.{_≡_, refl}
-use mathlib.Core.Bool.{Bool, true, false}
-use mathlib.Core.List.{List, [], _∷_}
+use mathlib.Core.Bool.{true, false}
 use Prim.Native.Nat.{ℕ}
 use Prim.Native.String.{String}
 use Rattle.wire.specs.Choose.{pick, bind}
-use Rattle.wire.specs.Got.{Got, got, bad}
+use Rattle.wire.specs.Got.{got, bad}
 use Rattle.wire.specs.declared.refusal.Fault.the-variants.{NotCarried, TooMany}
-use Rattle.types.specs.Text.{text, same, among}
-use Rattle.types.specs.Table.{table, lineIn, nth, lineOf}
-use Rattle.types.specs.Strings.{blank, alphanumeric, ofName, ofParameters, past, upTo, named, counted, inside, opened, tail, typed, behind, lineWith, stringWith, held, typeOf}
+use Rattle.typetable.specs.Text.{text, same, among}
+use Rattle.typetable.specs.Table.{table, lineIn, nth, lineOf}
+use Rattle.types.specs.Strings.{blank, alphanumeric, ofName, ofParameters, past, upTo, named, counted, inside, opened, tail, typed, behind, plain, lineWith, stringWith, held, typeOf}
 
 -- the string is taken as a key's or clustering column's type: its line, and whether it is reversed
 abbrev Is : String → ℕ → ℕ → Type 0
@@ -32,7 +31,7 @@ names : Is "Int32Type" 17 0
     × IsNot "marshal.Int32Type"
     × IsNot "("
     × IsNot "Int32Type\r"
-unfolding table lineIn nth lineOf same among blank alphanumeric ofName ofParameters past upTo named counted inside opened tail typed behind lineWith stringWith held typeOf pick bind
+unfolding table lineIn nth lineOf same among blank alphanumeric ofName ofParameters past upTo named counted inside opened tail typed behind plain lineWith stringWith held typeOf pick bind
 names = (refl, refl, refl, refl, refl, refl, refl)
 
 reversed : Is "ReversedType( Int32Type )" 17 1
@@ -42,7 +41,7 @@ reversed : Is "ReversedType( Int32Type )" 17 1
     × IsNot "ReversedType(Int32Type,)"
     × IsNot "ReversedType(ReversedType(a))"
     × Is "ReversedType(FrozenType(ReversedType(a)))" 15 1
-unfolding table lineIn nth lineOf same among blank alphanumeric ofName ofParameters past upTo named counted inside opened tail typed behind lineWith stringWith held typeOf pick bind
+unfolding table lineIn nth lineOf same among blank alphanumeric ofName ofParameters past upTo named counted inside opened tail typed behind plain lineWith stringWith held typeOf pick bind
 reversed = (refl, refl, refl, refl, refl, refl, refl)
 
 parameters : Is "TupleType()" 31 0
@@ -51,21 +50,21 @@ parameters : Is "TupleType()" 31 0
     × IsNot "ReversedType"
     × IsNot "Int32Type()"
     × IsNot "TupleType(\t)"
-unfolding table lineIn nth lineOf same among blank alphanumeric ofName ofParameters past upTo named counted inside opened tail typed behind lineWith stringWith held typeOf pick bind
+unfolding table lineIn nth lineOf same among blank alphanumeric ofName ofParameters past upTo named counted inside opened tail typed behind plain lineWith stringWith held typeOf pick bind
 parameters = (refl, refl, refl, refl, refl, refl)
 
 depth : Is "TupleType((((((((((((((((a))))))))))))))))" 31 0
     × TooDeep "TupleType(((((((((((((((((a)))))))))))))))))"
     × TooDeep "ReversedType(FrozenType(((((((((((((((("
     × TooDeep "FrozenType(((((((((((((((((!"
-unfolding table lineIn nth lineOf same among blank alphanumeric ofName ofParameters past upTo named counted inside opened tail typed behind lineWith stringWith held typeOf pick bind
+unfolding table lineIn nth lineOf same among blank alphanumeric ofName ofParameters past upTo named counted inside opened tail typed behind plain lineWith stringWith held typeOf pick bind
 depth = (refl, refl, refl, refl)
 
 leftmost : IsNot "ListType(!((((((((((((((((("
     × IsNot "FrozenType(((((((((((((((("
     × NoColumn "ListType((((((((((((((((("
     × NoColumn "ReversedType(MapType(a,b))"
-unfolding table lineIn nth lineOf same among blank alphanumeric ofName ofParameters past upTo named counted inside opened tail typed behind lineWith stringWith held typeOf pick bind
+unfolding table lineIn nth lineOf same among blank alphanumeric ofName ofParameters past upTo named counted inside opened tail typed behind plain lineWith stringWith held typeOf pick bind
 leftmost = (refl, refl, refl, refl)
 
 -- all of them

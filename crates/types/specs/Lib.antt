@@ -1,4 +1,2 @@
-pub mod Text
-pub mod Table
 pub mod Strings
 pub mod Parts

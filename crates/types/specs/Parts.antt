@@ -1,30 +1,44 @@
 -- What the parts of the code promise to each other, in terms of the definitions. Assumes nothing.
-use Prim.Native.Nat.{ℕ, _+_, _-_, _≤_}
+use Prim.Native.Nat.{ℕ, _-_, _≤_}
 use mathlib.Core.Path.{_≡_}
 use mathlib.Core.Bool.{Bool}
-use mathlib.Core.List.{List, [], _∷_, _++_}
-use lib.ListN.{length, take, drop}
-use Rattle.types.specs.declared.table.Row.{Row}
-use Rattle.types.specs.Table.{Line, table, lineOf}
+use mathlib.Core.List.{List, []}
+use lib.ListN.{length}
+use Rattle.wire.specs.Choose.{pick}
+use Rattle.wire.specs.Got.{Got, got, bad}
+use Rattle.wire.specs.Store.{part}
+use Rattle.types.specs.declared.Kind.{Kind}
+use Rattle.types.specs.declared.string.Name.{Name}
+use Rattle.types.specs.declared.string.Skip.{Skip}
+use Rattle.types.specs.declared.string.Skip.the-variants.{Behind, Faulty}
+use Rattle.types.specs.declared.string.Parsed.{Parsed}
+use Rattle.types.specs.declared.string.Parsed.the-variants.{Known, Refused}
+use Rattle.typetable.specs.Text.{rest, same}
+use Rattle.typetable.specs.Table.{bytesLine}
+use Rattle.types.specs.Strings.{blank, ofName, past, upTo, named, Closed, closed, faulty}
 
--- the bytes of s from place i on
-unfoldable pub rest : List ℕ → ℕ → List ℕ
-rest s i = drop i s
+-- the characters of s that pass the test from place at on reach up to place n
+pub record Passed (f : ℕ → Bool) (s : List ℕ) (at n : ℕ) : Type 0 where
+  pub least : at ≤ n
+  pub most : n ≤ length s
+  pub run : part s at (n - at) ≡ upTo f (rest s at)
+  pub left : rest s n ≡ past f (rest s at)
 
--- ---- the table
--- the names of lines, one after the other
-unfoldable pub names : List Line → List ℕ
-names [] = []
-names (l ∷ ls) = l .name ++ names ls
+-- the line that a name means, which may be empty
+unfoldable pub lineNamed : List ℕ → ℕ
+lineNamed name = pick (same name []) bytesLine (named name)
 
--- the first n lines
-unfoldable pub first : ℕ → List Line → List Line
-first n ls = take n ls
+-- the name that the type string from place at on begins with
+pub record NameAt (s : List ℕ) (at : ℕ) (r : Name) : Type 0 where
+  pub most : r .next ≤ length s
+  pub line : r .line ≡ lineNamed (upTo ofName (past blank (rest s at)))
+  pub left : rest s (r .next) ≡ past blank (past ofName (past blank (rest s at)))
 
--- a row of the code's table says what the line does; its name ends the names up to it
-pub record RowOf (l : ℕ) (r : Row) : Type 0 where
-  pub end : r .0 ≡ length (names (first l table))
-  pub parameters : r .1 ≡ lineOf l .parameters
-  pub width : r .2 ≡ lineOf l .width
-  pub ordered : r .3 ≡ lineOf l .ordered
-  pub column : r .4 ≡ lineOf l .column
+-- what the code's answers say
+unfoldable pub saidSkip : List ℕ → Skip → Closed
+saidSkip s (Behind n) = closed (rest s n)
+saidSkip s (Faulty f) = faulty f
+
+unfoldable pub saidParsed : Parsed → Got Kind
+saidParsed (Known k) = got k 0
+saidParsed (Refused f) = bad f 0

@@ -5,8 +5,8 @@
 use Prim.Native.Nat.{ℕ, zero, suc, _+_, _-_}
 use mathlib.Core.Bool.{Bool, true, false}
 use mathlib.Core.List.{List, [], _∷_}
-use lib.Dec.{ltb, leb, eqb}
-use lib.ListN.{length, take, drop}
+use lib.Dec.{ltb, eqb}
+use lib.ListN.{take, drop}
 use Rattle.wire.specs.Choose.{pick, bind}
 use Rattle.wire.specs.Got.{Got, got, bad, on, Reader}
 use Rattle.wire.specs.Store.{part}
@@ -16,8 +16,8 @@ use Rattle.wire.specs.declared.refusal.Fault.the-variants.{PastEnd, NotCarried,
 use Rattle.types.specs.declared.Typed.{Typed}
 use Rattle.types.specs.declared.Typed.the-variants.{Known, Refused}
 use Rattle.types.specs.declared.Kind.{Kind}
-use Rattle.types.specs.Text.{text, same, among}
-use Rattle.types.specs.Table.{Line, table, lineIn, lineOf, bytesLine, reversedLine}
+use Rattle.typetable.specs.Text.{text, same, among}
+use Rattle.typetable.specs.Table.{table, lineIn, lineOf, bytesLine, reversedLine}
 
 -- ---- characters
 -- "spaces, tabs and newlines"
@@ -99,14 +99,16 @@ unfoldable pub behind : ℕ → ℕ → Closed → Got Kind
 behind under l (closed cs) = typed under l cs
 behind under l (faulty f) = bad f 0
 
--- what line l is, of which cs follows the name: column where it is that of a static or regular column; rev reads what a Reversed holds
+-- the type of line l that is no Reversed, of which cs follows the name: parameters exactly where 001 says Yes
+unfoldable pub plain : ℕ → ℕ → List ℕ → Got Kind
+plain under l cs = pick (lineOf l .parameters) (behind under l (opened (faulty NotCarried) (inside (15 - under) 0) cs)) (typed under l cs)
+
+-- the type of line l: column where it is that of a static or regular column; rev reads what a Reversed holds
 unfoldable pub lineWith : ℕ → Bool → (List ℕ → Got Kind) → ℕ → List ℕ → Got Kind
 lineWith under column rev l cs =
     pick (eqb l 0) (bad NotCarried 0)
     (pick (pick column (lineOf l .column) true)
-    (pick (eqb l reversedLine) (rev cs)
-    (pick (lineOf l .parameters) (behind under l (opened (faulty NotCarried) (inside (15 - under) 0) cs))
-    (typed under l cs)))
+    (pick (eqb l reversedLine) (rev cs) (plain under l cs))
     (bad NotCarried 0))
 
 -- the type string cs; without a name it is BytesType

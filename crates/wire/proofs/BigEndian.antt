@@ -113,14 +113,26 @@ fixed-within r w s at end v n e f =
     gives-got _ _ (omega (arith, ltb-false end at g, ltb-false (end - at) w h)))))))
     (num-got r _ v n e f)
 
+-- bytes that stand spell their number
+pub spelled-back : (w : ℕ) (s : List ℕ) (end at n x : ℕ) → x < 256 ^ w → Stands s end at n (bytesOf x w) → bigEndian 0 s at w ≡ x
+spelled-back w s end at n x small h =
+    let k = length-bytesOf x w in
+    rw (← div-eq-of-lt small) (be-bytes s at w x w (omega arith) (λ i p. h .bytes i (omega arith) ∙ getD-bytesOf x w i p) ∙ rw sub-self (div-one x))
+
 -- round trip: what is put is read back
 pub fixed-back : (w : ℕ) (s : List ℕ) (end at n x : ℕ) → w ≤ 8 → x < 256 ^ w → Stands s end at n (bytesOf x w) → Reads (fixedAt w s at end) n (λ y. y ≡ x)
 fixed-back w s end at n x l small h =
     let k = length-bytesOf x w in
-    let v : x ≡ bigEndian 0 s at w =
-    sym (rw (← div-eq-of-lt small) (be-bytes s at w x w (omega arith) (λ i p. h .bytes i (omega arith) ∙ getD-bytesOf x w i p) ∙ rw sub-self (div-one x))) in
     record {
       value = x;
-      is = sym (fixed-whole s at end w x l (h .inside) (omega (arith, h .stop, h .within)) (omega (arith, h .stop, h .within)) v) ∙ ap (got x) (omega (arith, h .stop));
+      is =
+          sym (fixed-whole s at end w x l (h .inside) (omega (arith, h .stop, h .within)) (omega (arith, h .stop, h .within)) (sym (spelled-back w s end at n x small h)))
+          ∙ ap (got x) (omega (arith, h .stop));
       holds = refl;
     }
+
+-- a number depends on its bytes alone
+pub be-agrees : (acc : ℕ) (s t : List ℕ) (at n : ℕ) → ((i : ℕ) → i < at + n → getD s i 0 ≡ getD t i 0) → bigEndian acc s at n ≡ bigEndian acc t at n
+unfolding bigEndian
+be-agrees acc s t at zero h = refl
+be-agrees acc s t at (suc n) h = rw (be-agrees acc s t at n (λ i l. h i (omega arith)), h (at + n) (omega arith))

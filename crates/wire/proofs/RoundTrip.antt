@@ -5,6 +5,7 @@ use mathlib.Core.Bool.{Bool, true, false}
 use Prim.Native.Nat.{ℕ}
 use Rattle.wire.specs.Choose.{pick}
 use Rattle.wire.specs.Got.{Got, got, bad, on}
+use Rattle.wire.specs.declared.refusal.Fault.{Fault}
 
 -- x is a value of which P holds, and n is the place after it
 pub record Reads {A : Type 0} (x : Got A) (n : ℕ) (P : A → Type 0) : Type 0 where
@@ -34,3 +35,12 @@ reads-no x t e h = rw e h
 
 pub reads-to : {A : Type 0} {P : A → Type 0} {x : Got A} {m n : ℕ} → m ≡ n → Reads x m P → Reads x n P
 reads-to e h = rw (← e) h
+
+-- ---- what follows a reading that is known
+pub reads-then : {A B : Type 0} {P : A → Type 0} {x : Got A} {m : ℕ} {y : Got B} (k : A → ℕ → Got B) → Reads x m P → ((a : A) → P a → k a m ≡ y) → on x k ≡ y
+unfolding on
+reads-then k h g = rw (h .is) (g (h .value) (h .holds))
+
+pub bad-on : {A B : Type 0} {x : Got A} {f : Fault} {p : ℕ} (k : A → ℕ → Got B) → x ≡ bad f p → on x k ≡ bad f p
+unfolding on
+bad-on k e = rw e refl

@@ -6,7 +6,7 @@ use native.Mathlib.Numerals.{add-one}
 use native.Mathlib.Nat.{add-assoc}
 use native.Mathlib.Omega.{arith}
 use lib.ListN.{length, getD, set, take, drop, length-append, length-take, length-drop, take-append-drop, List·getD-append}
-use lib.Seq.{paste, paste-zero, paste-suc, length-paste, take-length, take-suc-set, drop-set-lt, append-snoc, take-at, drop-at, take-add, drop-drop, drop-append-add, length-take-le, getD-append-add}
+use lib.Seq.{paste, paste-zero, paste-suc, length-paste, take-length, take-suc-set, drop-set-lt, append-snoc, take-at, drop-at, take-add, drop-drop, drop-append-add, length-take-le, getD-append-add, getD-take}
 use Rattle.wire.specs.Store.{splice}
 
 -- d with the first n of vs stored from place at on
@@ -123,3 +123,10 @@ getD-mid p vs r i k e h = rw e (List·getD-append (p ++ vs) r 0 (length p + i) (
 pub getD-splice : (d : List ℕ) (at : ℕ) (vs : List ℕ) (i k : ℕ) → at ≤ length d → i < length vs → k ≡ at + i → getD (splice d at vs) k 0 ≡ getD vs i 0
 unfolding splice
 getD-splice d at vs i k h l e = getD-mid (take at d) vs _ i k (rw (length-take-le at d h) e) l
+
+-- before the place of a store nothing changes
+pub getD-before : (d : List ℕ) (at : ℕ) (vs : List ℕ) (i : ℕ) → at ≤ length d → i < at → getD (splice d at vs) i 0 ≡ getD d i 0
+unfolding splice
+getD-before d at vs i h l =
+    let e : length (take at d) ≡ at = length-take-le at d h in
+    rw append-assoc (List·getD-append (take at d) (vs ++ drop (at + length vs) d) 0 i (omega arith) ∙ getD-take at d i 0 l)

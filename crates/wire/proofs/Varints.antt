@@ -77,30 +77,35 @@ varint-gives s at end b =
     (gives-pick (leb (end - at) (leading 8 (getD s at 0))) (λ g. gives-bad _ _) (λ g.
     gives-got _ _ (varint-fits s at end _ b refl (leb-false _ _ g))))))
 
--- a varint that the code has read ends before the end, which is not past the slice
-pub varint-within : (r : Num) (s : List ℕ) (at end v n : ℕ) → saidNum r ≡ varintAt s at end → r ≡ Number v n → n ≤ end
-unfolding varintAt
-varint-within r s at end v n e f =
-    gives-is
-    {P = λ x m. m ≤ end}
-    (gives-pick (ltb (length s) end) (λ d. gives-bad _ _) (λ d.
-    gives-pick (leb end at) (λ g. gives-bad _ _) (λ g.
-    gives-bind _ _
-    (gives-pick (leb (end - at) (leading 8 (getD s at 0))) (λ h. gives-bad _ _) (λ h.
-    gives-got _ _ (omega (arith, leb-false end at g, leb-false (end - at) (leading 8 (getD s at 0)) h)))))))
-    (num-got r _ v n e f)
+-- a varint ends before the end, which is not past the slice, whatever its bytes are
+pub record Ends (s : List ℕ) (at end n : ℕ) : Type 0 where
+  pub past : at < n
+  pub within : n ≤ end
+  pub inside : end ≤ length s
 
-pub varint-inside : (r : Num) (s : List ℕ) (at end v n : ℕ) → saidNum r ≡ varintAt s at end → r ≡ Number v n → end ≤ length s
+pub varint-ends : (s : List ℕ) (at end : ℕ) → Gives (varintAt s at end) (λ v n. Ends s at end n)
 unfolding varintAt
-varint-inside r s at end v n e f =
-    gives-is
-    {P = λ x m. end ≤ length s}
-    (gives-pick (ltb (length s) end) (λ d. gives-bad _ _) (λ d.
+varint-ends s at end =
+    gives-pick (ltb (length s) end) (λ d. gives-bad _ _) (λ d.
     gives-pick (leb end at) (λ g. gives-bad _ _) (λ g.
     gives-bind _ _
     (gives-pick (leb (end - at) (leading 8 (getD s at 0))) (λ h. gives-bad _ _) (λ h.
-    gives-got _ _ (ltb-false (length s) end d))))))
-    (num-got r _ v n e f)
+    gives-got _ _ (record {
+      past = omega arith;
+      within = omega (arith, leb-false end at g, leb-false (end - at) (leading 8 (getD s at 0)) h);
+      inside = ltb-false (length s) end d;
+    })))))
+
+-- the same of a varint that the code has read
+module _ (r : Num) (s : List ℕ) (at end v n : ℕ) (e : saidNum r ≡ varintAt s at end) (f : r ≡ Number v n) where
+  ends : Ends s at end n
+  ends = gives-is (varint-ends s at end) (num-got r _ v n e f)
+
+  pub varint-within : n ≤ end
+  varint-within = ends .within
+
+  pub varint-inside : end ≤ length s
+  varint-inside = ends .inside
 
 -- ---- round trip: the number x in the form of which n bytes follow the first, at least as many as it needs, is read
 implied : (a b : Bool) → a ≡ true → T (implies a b) → T b

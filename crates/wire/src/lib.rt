@@ -2,4 +2,5 @@
 pub mod refusal; // refusal.rt: faults and slices with document 01's numbers
 pub mod number; // number.rt: big-endian numbers of a width
 pub mod varint; // varint.rt: varints
+pub mod times; // times.rt: base times
 pub mod part; // part.rt: parts of a slice, handed out and copied

@@ -4,38 +4,28 @@ use Rattle.entries.specs.Contents.{countAt}
 use borrow.Author.Needs.{needs}
 use Rattle.entries.proofs.contents.count.Statement.{statement}
 use Rattle.entries.proofs.contents.count.Tie as tie
-use Rattle.entries.proofs.contents.count.Reads as reads
-use Rattle.entries.proofs.contents.count.Lts as lts
-use Rattle.wire.proofs.number.read.Reads as read-reads
 
--- src/contents.rt:158:11
 read-requires : tie.Need-read-requires
 read-requires c κs = search needs
 
--- src/contents.rt:159:23
 enum-known-value : tie.Need-enum-known-value
 enum-known-value c = search needs
 
--- src/contents.rt:161:17
 returns : tie.Need-returns
 unfolding countAt
 returns c = search (reading, cases) depth 12
 
--- src/contents.rt:167:17
 returns-2 : tie.Need-returns-2
 unfolding countAt
 returns-2 c = search (reading, cases) depth 12
 
--- src/contents.rt:174:24
 enum-known-fault : tie.Need-enum-known-fault
 enum-known-fault c = search needs
 
--- src/contents.rt:155:1
 returns-3 : tie.Need-returns-3
 unfolding countAt
 returns-3 c = search (reading, cases) depth 12
 
--- src/contents.rt:155:1
 returns-4 : tie.Need-returns-4
 unfolding countAt
 returns-4 c = search (reading, cases) depth 12

@@ -2,27 +2,19 @@ use Rattle.entries.specs.Contents.{endOf}
 use borrow.Author.Needs.{needs}
 use Rattle.entries.proofs.contents.end_of.Statement.{statement}
 use Rattle.entries.proofs.contents.end_of.Tie as tie
-use Rattle.entries.proofs.contents.end_of.Reads as reads
-use Rattle.entries.proofs.contents.end_of.Lts as lts
-use Rattle.entries.proofs.contents.nearer_of.Reads as nearer-of-reads
 
--- src/contents.rt:266:9
 nearer-of-requires : tie.Need-nearer-of-requires
 nearer-of-requires c κs = search needs
 
--- src/contents.rt:267:9
 nearer-of-requires-2 : tie.Need-nearer-of-requires-2
 nearer-of-requires-2 c κs = search needs
 
--- src/contents.rt:268:9
 nearer-of-requires-3 : tie.Need-nearer-of-requires-3
 nearer-of-requires-3 c κs = search needs
 
--- src/contents.rt:269:5
 nearer-of-requires-4 : tie.Need-nearer-of-requires-4
 nearer-of-requires-4 c κs = search needs
 
--- src/contents.rt:263:1
 returns : tie.Need-returns
 unfolding endOf
 returns c = cc

@@ -3,20 +3,15 @@ use Rattle.entries.specs.Contents.{nearer}
 use borrow.Author.Needs.{needs}
 use Rattle.entries.proofs.contents.nearer_of.Statement.{statement}
 use Rattle.entries.proofs.contents.nearer_of.Tie as tie
-use Rattle.entries.proofs.contents.nearer_of.Reads as reads
-use Rattle.entries.proofs.contents.nearer_of.Lts as lts
 
--- src/contents.rt:256:13
 returns : tie.Need-returns
 unfolding nearer
 returns c = search cases depth 12
 
--- src/contents.rt:251:1
 returns-2 : tie.Need-returns-2
 unfolding nearer
 returns-2 c = search cases depth 12
 
--- src/contents.rt:251:1
 returns-3 : tie.Need-returns-3
 unfolding nearer
 returns-3 c = search cases depth 12

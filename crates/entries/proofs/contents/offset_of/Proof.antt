@@ -3,25 +3,19 @@ use Rattle.entries.specs.Contents.{offsetOf}
 use borrow.Author.Needs.{needs}
 use Rattle.entries.proofs.contents.offset_of.Statement.{statement}
 use Rattle.entries.proofs.contents.offset_of.Tie as tie
-use Rattle.entries.proofs.contents.offset_of.Reads as reads
-use Rattle.entries.proofs.contents.offset_of.Lts as lts
 
--- src/contents.rt:30:9
 returns : tie.Need-returns
 unfolding offsetOf
 returns c = search cases depth 12
 
--- src/contents.rt:33:9
 returns-2 : tie.Need-returns-2
 unfolding offsetOf
 returns-2 c = search cases depth 12
 
--- src/contents.rt:36:9
 returns-3 : tie.Need-returns-3
 unfolding offsetOf
 returns-3 c = search cases depth 12
 
--- src/contents.rt:26:1
 returns-4 : tie.Need-returns-4
 unfolding offsetOf
 returns-4 c = search cases depth 12

@@ -3,25 +3,19 @@ use Rattle.entries.specs.Contents.{withEntry}
 use borrow.Author.Needs.{needs}
 use Rattle.entries.proofs.contents.with_entry.Statement.{statement}
 use Rattle.entries.proofs.contents.with_entry.Tie as tie
-use Rattle.entries.proofs.contents.with_entry.Reads as reads
-use Rattle.entries.proofs.contents.with_entry.Lts as lts
 
--- src/contents.rt:46:9
 returns : tie.Need-returns
 unfolding withEntry
 returns c = search cases depth 12
 
--- src/contents.rt:54:9
 returns-2 : tie.Need-returns-2
 unfolding withEntry
 returns-2 c = search cases depth 12
 
--- src/contents.rt:62:9
 returns-3 : tie.Need-returns-3
 unfolding withEntry
 returns-3 c = search cases depth 12
 
--- src/contents.rt:42:1
 returns-4 : tie.Need-returns-4
 unfolding withEntry
 returns-4 c = search cases depth 12

@@ -5,33 +5,23 @@ use Rattle.entries.specs.Validation.{chanceAt}
 use borrow.Author.Needs.{needs}
 use Rattle.entries.proofs.validation.chance_at.Statement.{statement}
 use Rattle.entries.proofs.validation.chance_at.Tie as tie
-use Rattle.entries.proofs.validation.chance_at.Reads as reads
-use Rattle.entries.proofs.validation.chance_at.Lts as lts
-use Rattle.entries.proofs.validation.chance_of.Reads as chance-of-reads
-use Rattle.wire.proofs.number.read.Reads as read-reads
 
--- src/validation.rt:61:11
 read-requires : tie.Need-read-requires
 read-requires c κs = search needs
 
--- src/validation.rt:62:23
 enum-known-value : tie.Need-enum-known-value
 enum-known-value c = search needs
 
--- src/validation.rt:62:40
 chance-of-requires : tie.Need-chance-of-requires
 chance-of-requires c κs = search needs
 
--- src/validation.rt:63:24
 enum-known-fault : tie.Need-enum-known-fault
 enum-known-fault c = search needs
 
--- src/validation.rt:58:1
 returns : tie.Need-returns
 unfolding chanceAt
 returns c = search (reading, answers, cases) depth 12
 
--- src/validation.rt:58:1
 returns-2 : tie.Need-returns-2
 unfolding chanceAt
 returns-2 c = search (reading, answers, cases) depth 12

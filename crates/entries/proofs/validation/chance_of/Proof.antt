@@ -5,30 +5,23 @@ use Rattle.entries.proofs.Doubles.{nan-yes, nan-no, not-nan}
 use borrow.Author.Needs.{needs}
 use Rattle.entries.proofs.validation.chance_of.Statement.{statement}
 use Rattle.entries.proofs.validation.chance_of.Tie as tie
-use Rattle.entries.proofs.validation.chance_of.Reads as reads
-use Rattle.entries.proofs.validation.chance_of.Lts as lts
 
--- src/validation.rt:38:9
 returns : tie.Need-returns
 unfolding chanceOf
 returns c = search (nan-yes, nan-no, not-nan, answers, cases) depth 12
 
--- src/validation.rt:43:17
 float-from-bits-value : tie.Need-float-from-bits-value
 unfolding chanceOf
 float-from-bits-value c = search (nan-yes, nan-no, not-nan, answers, cases) depth 12
 
--- src/validation.rt:46:13
 returns-2 : tie.Need-returns-2
 unfolding chanceOf
 returns-2 c = search (nan-yes, nan-no, not-nan, answers, cases) depth 12
 
--- src/validation.rt:33:1
 returns-3 : tie.Need-returns-3
 unfolding chanceOf
 returns-3 c = search (nan-yes, nan-no, not-nan, answers, cases) depth 12
 
--- src/validation.rt:33:1
 returns-4 : tie.Need-returns-4
 unfolding chanceOf
 returns-4 c = search (nan-yes, nan-no, not-nan, answers, cases) depth 12

@@ -6,64 +6,47 @@ use Rattle.entries.specs.Validation.{validationAt}
 use borrow.Author.Needs.{needs}
 use Rattle.entries.proofs.validation.read.Statement.{statement}
 use Rattle.entries.proofs.validation.read.Tie as tie
-use Rattle.entries.proofs.validation.read.Reads as reads
-use Rattle.entries.proofs.validation.read.Lts as lts
-use Rattle.entries.proofs.validation.chance_at.Reads as chance-at-reads
-use Rattle.wire.proofs.number.read.Reads as read-reads
 
--- src/validation.rt:71:11
 read-requires : tie.Need-read-requires
 read-requires c κs = search needs
 
--- src/validation.rt:72:23
 enum-known-value : tie.Need-enum-known-value
 enum-known-value c = search needs
 
--- src/validation.rt:74:16
 sub-if1 : tie.Need-sub-if1
 sub-if1 c = search (fixed-within, needs)
 
--- src/validation.rt:75:17
 returns : tie.Need-returns
 unfolding validationAt
 returns c = search (fixed-within, reading, answers, cases) depth 12
 
--- src/validation.rt:80:32
 add-chance-at : tie.Need-add-chance-at
 add-chance-at c = search needs
 
--- src/validation.rt:80:19
 chance-at-requires : tie.Need-chance-at-requires
 chance-at-requires c κs = search needs
 
--- src/validation.rt:82:21
 enum-known-chance : tie.Need-enum-known-chance
 enum-known-chance c = search needs
 
--- src/validation.rt:86:25
 returns-2 : tie.Need-returns-2
 unfolding validationAt
 returns-2 c = search (fixed-within, reading, answers, cases) depth 12
 
--- src/validation.rt:100:36
 enum-known-fault : tie.Need-enum-known-fault
 enum-known-fault c = search needs
 
--- src/validation.rt:103:24
 enum-known-fault-2 : tie.Need-enum-known-fault-2
 enum-known-fault-2 c = search needs
 
--- src/validation.rt:68:1
 returns-3 : tie.Need-returns-3
 unfolding validationAt
 returns-3 c = search (fixed-within, reading, answers, cases) depth 12
 
--- src/validation.rt:68:1
 returns-4 : tie.Need-returns-4
 unfolding validationAt
 returns-4 c = search (fixed-within, reading, answers, cases) depth 12
 
--- src/validation.rt:68:1
 returns-5 : tie.Need-returns-5
 unfolding validationAt
 returns-5 c = search (fixed-within, reading, answers, cases) depth 12

@@ -3,9 +3,6 @@ use Rattle.schema.proofs.Loops.{Alike, alike}
 use borrow.Author.Needs.{needs}
 use Rattle.schema.proofs.columns.is_same.Statement.{statement}
 use Rattle.schema.proofs.columns.is_same.Tie as tie
-use Rattle.schema.proofs.columns.is_same.Reads as reads
-use Rattle.schema.proofs.columns.is_same.Lts as lts
-use Rattle.schema.proofs.columns.is_same_column.Reads as is-same-column-reads
 
 abbrev Inv-loop : tie.InvT-loop
 Inv-loop a t b u n i₀ i = Alike a t b u n i
@@ -13,39 +10,30 @@ Inv-loop a t b u n i₀ i = Alike a t b u n i
 abbrev μ-loop : tie.MeasureT-loop
 μ-loop a t b u n i₀ i = n - i
 
--- src/columns.rt:90:9
 returns : tie.Need-returns Inv-loop μ-loop
 returns c = search (alike, needs)
 
--- src/columns.rt:94:5
 loop-holds : tie.Need-loop-holds Inv-loop μ-loop
 loop-holds c = search (alike, needs)
 
--- src/columns.rt:95:39
 mul-is-same-column : tie.Need-mul-is-same-column Inv-loop μ-loop
 mul-is-same-column c = search (alike, needs)
 
--- src/columns.rt:95:12
 is-same-column-requires : tie.Need-is-same-column-requires Inv-loop μ-loop
 is-same-column-requires c κs = search (alike, needs)
 
--- src/columns.rt:96:13
 add-i : tie.Need-add-i Inv-loop μ-loop
 add-i c = search (alike, needs)
 
--- src/columns.rt:94:5
 loop-less : tie.Need-loop-less Inv-loop μ-loop
 loop-less c = search (alike, needs)
 
--- src/columns.rt:94:5
 loop-again : tie.Need-loop-again Inv-loop μ-loop
 loop-again c = search (alike, needs)
 
--- src/columns.rt:99:9
 returns-2 : tie.Need-returns-2 Inv-loop μ-loop
 returns-2 c = search (alike, needs)
 
--- src/columns.rt:86:1
 returns-3 : tie.Need-returns-3 Inv-loop μ-loop
 returns-3 c = search (alike, needs)
 

@@ -5,78 +5,57 @@ use Rattle.schema.specs.Records.{roleAt, lineAt, markAt}
 use borrow.Author.Needs.{needs}
 use Rattle.schema.proofs.columns.is_same_column.Statement.{statement}
 use Rattle.schema.proofs.columns.is_same_column.Tie as tie
-use Rattle.schema.proofs.columns.is_same_column.Reads as reads
-use Rattle.schema.proofs.columns.is_same_column.Lts as lts
-use Rattle.schema.proofs.columns.name_of.Reads as name-of-reads
-use Rattle.types.proofs.text.equal.Reads as equal-reads
 
--- src/columns.rt:70:8
 shared-slice-read-if1 : tie.Need-shared-slice-read-if1
 shared-slice-read-if1 c = search needs
 
--- src/columns.rt:70:17
 shared-slice-read-if1-2 : tie.Need-shared-slice-read-if1-2
 shared-slice-read-if1-2 c = search needs
 
--- src/columns.rt:71:14
 add-if2 : tie.Need-add-if2
 add-if2 c = search needs
 
--- src/columns.rt:71:12
 shared-slice-read-if2 : tie.Need-shared-slice-read-if2
 shared-slice-read-if2 c = search needs
 
--- src/columns.rt:71:27
 add-if2-2 : tie.Need-add-if2-2
 add-if2-2 c = search needs
 
--- src/columns.rt:71:25
 shared-slice-read-if2-2 : tie.Need-shared-slice-read-if2-2
 shared-slice-read-if2-2 c = search needs
 
--- src/columns.rt:72:18
 add-if3 : tie.Need-add-if3
 add-if3 c = search needs
 
--- src/columns.rt:72:16
 shared-slice-read-if3 : tie.Need-shared-slice-read-if3
 shared-slice-read-if3 c = search needs
 
--- src/columns.rt:72:31
 add-if3-2 : tie.Need-add-if3-2
 add-if3-2 c = search needs
 
--- src/columns.rt:72:29
 shared-slice-read-if3-2 : tie.Need-shared-slice-read-if3-2
 shared-slice-read-if3-2 c = search needs
 
--- src/columns.rt:74:21
 name-of-requires : tie.Need-name-of-requires
 name-of-requires c κs = search needs
 
--- src/columns.rt:75:21
 name-of-requires-2 : tie.Need-name-of-requires-2
 name-of-requires-2 c κs = search needs
 
--- src/columns.rt:73:17
 equal-requires : tie.Need-equal-requires
 equal-requires c κs = search needs
 
--- src/columns.rt:73:17
 returns : tie.Need-returns
 returns c = search (same-at, needs)
 
--- src/columns.rt:78:13
 returns-2 : tie.Need-returns-2
 unfolding sameColumn roleAt lineAt markAt
 returns-2 c = search (told, cases, needs) depth 12
 
--- src/columns.rt:80:9
 returns-3 : tie.Need-returns-3
 unfolding sameColumn roleAt lineAt markAt
 returns-3 c = search (told, cases, needs) depth 12
 
--- src/columns.rt:66:1
 returns-4 : tie.Need-returns-4
 unfolding sameColumn roleAt lineAt markAt
 returns-4 c = search (told, cases, needs) depth 12

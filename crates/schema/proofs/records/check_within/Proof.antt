@@ -4,33 +4,24 @@ use Rattle.schema.specs.Records.{schemaOf}
 use borrow.Author.Needs.{needs}
 use Rattle.schema.proofs.records.check_within.Statement.{statement}
 use Rattle.schema.proofs.records.check_within.Tie as tie
-use Rattle.schema.proofs.records.check_within.Reads as reads
-use Rattle.schema.proofs.records.check_within.Lts as lts
-use Rattle.schema.proofs.records.read_records.Reads as read-records-reads
 
--- src/records.rt:247:9
 returns : tie.Need-returns
 unfolding schemaOf
 returns c = search (answers, cases) depth 12
 
--- src/records.rt:253:11
 read-records-requires : tie.Need-read-records-requires
 read-records-requires c κs = search needs
 
--- src/records.rt:254:26
 enum-known-counts : tie.Need-enum-known-counts
 enum-known-counts c = search needs
 
--- src/records.rt:255:22
 enum-known-fault : tie.Need-enum-known-fault
 enum-known-fault c = search needs
 
--- src/records.rt:243:1
 returns-2 : tie.Need-returns-2
 unfolding schemaOf
 returns-2 c = search (answers, cases) depth 12
 
--- src/records.rt:243:1
 returns-3 : tie.Need-returns-3
 unfolding schemaOf
 returns-3 c = search (answers, cases) depth 12

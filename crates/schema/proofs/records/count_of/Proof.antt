@@ -3,25 +3,19 @@ use Rattle.schema.specs.Records.{countOf}
 use borrow.Author.Needs.{needs}
 use Rattle.schema.proofs.records.count_of.Statement.{statement}
 use Rattle.schema.proofs.records.count_of.Tie as tie
-use Rattle.schema.proofs.records.count_of.Reads as reads
-use Rattle.schema.proofs.records.count_of.Lts as lts
 
--- src/records.rt:95:9
 returns : tie.Need-returns
 unfolding countOf
 returns c = search cases depth 12
 
--- src/records.rt:98:9
 returns-2 : tie.Need-returns-2
 unfolding countOf
 returns-2 c = search cases depth 12
 
--- src/records.rt:101:9
 returns-3 : tie.Need-returns-3
 unfolding countOf
 returns-3 c = search cases depth 12
 
--- src/records.rt:91:1
 returns-4 : tie.Need-returns-4
 unfolding countOf
 returns-4 c = search cases depth 12

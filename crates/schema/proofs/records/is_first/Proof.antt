@@ -3,15 +3,11 @@ use Rattle.schema.specs.Records.{isFirst}
 use borrow.Author.Needs.{needs}
 use Rattle.schema.proofs.records.is_first.Statement.{statement}
 use Rattle.schema.proofs.records.is_first.Tie as tie
-use Rattle.schema.proofs.records.is_first.Reads as reads
-use Rattle.schema.proofs.records.is_first.Lts as lts
 
--- src/records.rt:140:9
 returns : tie.Need-returns
 unfolding isFirst
 returns c = search cases depth 12
 
--- src/records.rt:136:1
 returns-2 : tie.Need-returns-2
 unfolding isFirst
 returns-2 c = search cases depth 12

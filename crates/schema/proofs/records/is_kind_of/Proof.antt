@@ -3,35 +3,25 @@ use Rattle.schema.specs.Records.{isKindOf}
 use borrow.Author.Needs.{needs}
 use Rattle.schema.proofs.records.is_kind_of.Statement.{statement}
 use Rattle.schema.proofs.records.is_kind_of.Tie as tie
-use Rattle.schema.proofs.records.is_kind_of.Reads as reads
-use Rattle.schema.proofs.records.is_kind_of.Lts as lts
-use Rattle.schema.proofs.records.is_line_of.Reads as is-line-of-reads
-use Rattle.types.proofs.table.width.Reads as width-reads
 
--- src/records.rt:47:9
 returns : tie.Need-returns
 unfolding isKindOf
 returns c = search (told, cases) depth 12
 
--- src/records.rt:49:8
 is-line-of-requires : tie.Need-is-line-of-requires
 is-line-of-requires c κs = search needs
 
--- src/records.rt:51:13
 returns-2 : tie.Need-returns-2
 unfolding isKindOf
 returns-2 c = search (told, cases) depth 12
 
--- src/records.rt:53:25
 width-requires : tie.Need-width-requires
 width-requires c κs = search needs
 
--- src/records.rt:53:9
 returns-3 : tie.Need-returns-3
 unfolding isKindOf
 returns-3 c = search (told, cases) depth 12
 
--- src/records.rt:43:1
 returns-4 : tie.Need-returns-4
 unfolding isKindOf
 returns-4 c = search (told, cases) depth 12

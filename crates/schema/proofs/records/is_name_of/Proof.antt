@@ -4,25 +4,19 @@ use Rattle.schema.proofs.Checks.{sum-over, sum-within}
 use borrow.Author.Needs.{needs}
 use Rattle.schema.proofs.records.is_name_of.Statement.{statement}
 use Rattle.schema.proofs.records.is_name_of.Tie as tie
-use Rattle.schema.proofs.records.is_name_of.Reads as reads
-use Rattle.schema.proofs.records.is_name_of.Lts as lts
 
--- src/records.rt:64:13
 returns : tie.Need-returns
 unfolding isNameOf
 returns c = search (sum-over, sum-within, cases) depth 12
 
--- src/records.rt:66:9
 returns-2 : tie.Need-returns-2
 unfolding isNameOf
 returns-2 c = search (sum-over, sum-within, cases) depth 12
 
--- src/records.rt:69:9
 returns-3 : tie.Need-returns-3
 unfolding isNameOf
 returns-3 c = search (sum-over, sum-within, cases) depth 12
 
--- src/records.rt:59:1
 returns-4 : tie.Need-returns-4
 unfolding isNameOf
 returns-4 c = search (sum-over, sum-within, cases) depth 12

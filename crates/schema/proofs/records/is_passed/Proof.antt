@@ -3,25 +3,19 @@ use Rattle.schema.specs.Records.{isPassed}
 use borrow.Author.Needs.{needs}
 use Rattle.schema.proofs.records.is_passed.Statement.{statement}
 use Rattle.schema.proofs.records.is_passed.Tie as tie
-use Rattle.schema.proofs.records.is_passed.Reads as reads
-use Rattle.schema.proofs.records.is_passed.Lts as lts
 
--- src/records.rt:125:13
 returns : tie.Need-returns
 unfolding isPassed
 returns c = search cases depth 12
 
--- src/records.rt:127:9
 returns-2 : tie.Need-returns-2
 unfolding isPassed
 returns-2 c = search cases depth 12
 
--- src/records.rt:130:9
 returns-3 : tie.Need-returns-3
 unfolding isPassed
 returns-3 c = search cases depth 12
 
--- src/records.rt:120:1
 returns-4 : tie.Need-returns-4
 unfolding isPassed
 returns-4 c = search cases depth 12

@@ -3,20 +3,15 @@ use Rattle.schema.specs.Records.{mostOf}
 use borrow.Author.Needs.{needs}
 use Rattle.schema.proofs.records.most_of.Statement.{statement}
 use Rattle.schema.proofs.records.most_of.Tie as tie
-use Rattle.schema.proofs.records.most_of.Reads as reads
-use Rattle.schema.proofs.records.most_of.Lts as lts
 
--- src/records.rt:111:9
 returns : tie.Need-returns
 unfolding mostOf
 returns c = search cases depth 12
 
--- src/records.rt:114:9
 returns-2 : tie.Need-returns-2
 unfolding mostOf
 returns-2 c = search cases depth 12
 
--- src/records.rt:107:1
 returns-3 : tie.Need-returns-3
 unfolding mostOf
 returns-3 c = search cases depth 12

@@ -5,11 +5,6 @@ use Rattle.schema.proofs.Fields.{turn-room}
 use borrow.Author.Needs.{needs}
 use Rattle.schema.proofs.records.read_records.Statement.{statement}
 use Rattle.schema.proofs.records.read_records.Tie as tie
-use Rattle.schema.proofs.records.read_records.Reads as reads
-use Rattle.schema.proofs.records.read_records.Lts as lts
-use Rattle.schema.proofs.records.in_turn.Reads as in-turn-reads
-use Rattle.schema.proofs.records.is_given.Reads as is-given-reads
-use Rattle.schema.proofs.records.with_one.Reads as with-one-reads
 
 abbrev Inv-loop : tie.InvT-loop
 Inv-loop limit s c₀ at₀ c at = Checking limit s c at
@@ -17,59 +12,45 @@ Inv-loop limit s c₀ at₀ c at = Checking limit s c at
 abbrev μ-loop : tie.MeasureT-loop
 μ-loop limit s c₀ at₀ c at = length s - at
 
--- src/records.rt:200:9
 returns : tie.Need-returns Inv-loop μ-loop
 returns c = search (checking, turn-room, needs)
 
--- src/records.rt:212:5
 loop-holds : tie.Need-loop-holds Inv-loop μ-loop
 loop-holds c = search (checking, turn-room, needs)
 
--- src/records.rt:213:12
 sub-if2 : tie.Need-sub-if2 Inv-loop μ-loop
 sub-if2 c = search (checking, turn-room, needs)
 
--- src/records.rt:214:13
 returns-2 : tie.Need-returns-2 Inv-loop μ-loop
 returns-2 c = search (checking, turn-room, needs)
 
--- src/records.rt:219:12
 is-given-requires : tie.Need-is-given-requires Inv-loop μ-loop
 is-given-requires c κs = search (checking, turn-room, needs)
 
--- src/records.rt:220:24
 shared-slice-read-role : tie.Need-shared-slice-read-role Inv-loop μ-loop
 shared-slice-read-role c = search (checking, turn-room, needs)
 
--- src/records.rt:221:16
 in-turn-requires : tie.Need-in-turn-requires Inv-loop μ-loop
 in-turn-requires c κs = search (checking, turn-room, needs)
 
--- src/records.rt:222:17
 with-one-requires : tie.Need-with-one-requires Inv-loop μ-loop
 with-one-requires c κs = search (checking, turn-room, needs)
 
--- src/records.rt:223:17
 add-at : tie.Need-add-at Inv-loop μ-loop
 add-at c = search (checking, turn-room, needs)
 
--- src/records.rt:212:5
 loop-less : tie.Need-loop-less Inv-loop μ-loop
 loop-less c = search (checking, turn-room, needs)
 
--- src/records.rt:212:5
 loop-again : tie.Need-loop-again Inv-loop μ-loop
 loop-again c = search (checking, turn-room, needs)
 
--- src/records.rt:226:13
 returns-3 : tie.Need-returns-3 Inv-loop μ-loop
 returns-3 c = search (checking, turn-room, needs)
 
--- src/records.rt:231:9
 returns-4 : tie.Need-returns-4 Inv-loop μ-loop
 returns-4 c = search (checking, turn-room, needs)
 
--- src/records.rt:196:1
 returns-5 : tie.Need-returns-5 Inv-loop μ-loop
 returns-5 c = search (checking, turn-room, needs)
 

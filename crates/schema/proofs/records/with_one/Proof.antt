@@ -4,41 +4,31 @@ use Rattle.schema.specs.Records.{withOne, countOf}
 use borrow.Author.Needs.{needs}
 use Rattle.schema.proofs.records.with_one.Statement.{statement}
 use Rattle.schema.proofs.records.with_one.Tie as tie
-use Rattle.schema.proofs.records.with_one.Reads as reads
-use Rattle.schema.proofs.records.with_one.Lts as lts
 
--- src/records.rt:165:19
 add-t4 : tie.Need-add-t4
 add-t4 c = search (one-more, needs)
 
--- src/records.rt:164:9
 returns : tie.Need-returns
 unfolding withOne countOf
 returns c = search (cases, needs) depth 12
 
--- src/records.rt:174:25
 add-t5 : tie.Need-add-t5
 add-t5 c = search (one-more, needs)
 
--- src/records.rt:172:9
 returns-2 : tie.Need-returns-2
 unfolding withOne countOf
 returns-2 c = search (cases, needs) depth 12
 
--- src/records.rt:183:22
 add-t6 : tie.Need-add-t6
 add-t6 c = search (one-more, needs)
 
--- src/records.rt:180:9
 returns-3 : tie.Need-returns-3
 unfolding withOne countOf
 returns-3 c = search (cases, needs) depth 12
 
--- src/records.rt:191:19
 add-t7 : tie.Need-add-t7
 add-t7 c = search (one-more, needs)
 
--- src/records.rt:159:1
 returns-4 : tie.Need-returns-4
 unfolding withOne countOf
 returns-4 c = search (cases, needs) depth 12

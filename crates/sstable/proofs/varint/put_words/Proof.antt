@@ -3,32 +3,22 @@ use Rattle.wire.proofs.Puts.{puts-same}
 use borrow.Author.Needs.{needs}
 use Rattle.sstable.proofs.varint.put_words.Statement.{statement}
 use Rattle.sstable.proofs.varint.put_words.Tie as tie
-use Rattle.sstable.proofs.varint.put_words.Reads as reads
-use Rattle.sstable.proofs.varint.put_words.Lts as lts
-use Rattle.wire.proofs.varint.len.Reads as len-reads
-use Rattle.wire.proofs.varint.put_in.Reads as put-in-reads
 
--- src/varint.rt:43:9
 returns : tie.Need-returns
 returns c = search (puts-varint, puts-same, needs)
 
--- src/varint.rt:45:9
 len-requires : tie.Need-len-requires
 len-requires c κs = search needs
 
--- src/varint.rt:47:9
 returns-2 : tie.Need-returns-2
 returns-2 c = search (puts-varint, puts-same, needs)
 
--- src/varint.rt:49:9
 put-in-requires : tie.Need-put-in-requires
 put-in-requires c κs = search needs
 
--- src/varint.rt:39:1
 same-length : tie.Need-same-length
 same-length c = search needs
 
--- src/varint.rt:39:1
 returns-3 : tie.Need-returns-3
 returns-3 c = search (puts-varint, puts-same, needs)
 

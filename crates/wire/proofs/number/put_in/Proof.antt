@@ -5,9 +5,6 @@ use Rattle.wire.proofs.BigEndian.{length-bytesOf, byte-is}
 use borrow.Author.Needs.{needs}
 use Rattle.wire.proofs.number.put_in.Statement.{statement}
 use Rattle.wire.proofs.number.put_in.Tie as tie
-use Rattle.wire.proofs.number.put_in.Reads as reads
-use Rattle.wire.proofs.number.put_in.Lts as lts
-use Rattle.wire.proofs.number.byte_of.Reads as byte-of-reads
 
 abbrev Inv-loop : tie.InvT-loop
 Inv-loop d₀ at n x i₀ d i = Storing (bytesOf x n) d₀ d at i
@@ -15,51 +12,39 @@ Inv-loop d₀ at n x i₀ d i = Storing (bytesOf x n) d₀ d at i
 abbrev μ-loop : tie.MeasureT-loop
 μ-loop d₀ at n x i₀ d i = n - i
 
--- src/number.rt:78:5
 loop-holds : tie.Need-loop-holds Inv-loop μ-loop
 loop-holds c = search (length-bytesOf, byte-is, stores, needs)
 
--- src/number.rt:79:32
 sub-byte-of : tie.Need-sub-byte-of Inv-loop μ-loop
 sub-byte-of c = search (length-bytesOf, byte-is, stores, needs)
 
--- src/number.rt:79:32
 sub-byte-of-2 : tie.Need-sub-byte-of-2 Inv-loop μ-loop
 sub-byte-of-2 c = search (length-bytesOf, byte-is, stores, needs)
 
--- src/number.rt:79:21
 byte-of-requires : tie.Need-byte-of-requires Inv-loop μ-loop
 byte-of-requires c κs = search (length-bytesOf, byte-is, stores, needs)
 
--- src/number.rt:79:11
 add-d : tie.Need-add-d Inv-loop μ-loop
 add-d c = search (length-bytesOf, byte-is, stores, needs)
 
--- src/number.rt:79:9
 slice-write-d : tie.Need-slice-write-d Inv-loop μ-loop
 slice-write-d c = search (length-bytesOf, byte-is, stores, needs)
 
--- src/number.rt:80:9
 add-i : tie.Need-add-i Inv-loop μ-loop
 add-i c = search (length-bytesOf, byte-is, stores, needs)
 
--- src/number.rt:78:5
 loop-less : tie.Need-loop-less Inv-loop μ-loop
 loop-less c = search (length-bytesOf, byte-is, stores, needs)
 
--- src/number.rt:78:5
 loop-again : tie.Need-loop-again Inv-loop μ-loop
 loop-again c = search (length-bytesOf, byte-is, stores, needs)
 
--- src/number.rt:82:5
 add-result : tie.Need-add-result Inv-loop μ-loop
 add-result c = search (length-bytesOf, byte-is, stores, needs)
 
--- src/number.rt:73:1
 same-length : tie.Need-same-length Inv-loop μ-loop
 same-length c = search (length-bytesOf, byte-is, stores, needs)
 
--- src/number.rt:73:1
 returns : tie.Need-returns Inv-loop μ-loop
 returns c = search (length-bytesOf, byte-is, stores, needs)
 

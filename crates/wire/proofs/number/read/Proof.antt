@@ -6,40 +6,30 @@ use Rattle.wire.proofs.BigEndian.{fixed-whole, width-fits}
 use borrow.Author.Needs.{needs}
 use Rattle.wire.proofs.number.read.Statement.{statement}
 use Rattle.wire.proofs.number.read.Tie as tie
-use Rattle.wire.proofs.number.read.Reads as reads
-use Rattle.wire.proofs.number.read.Lts as lts
-use Rattle.wire.proofs.number.big_endian.Reads as big-endian-reads
 
--- src/number.rt:46:9
 returns : tie.Need-returns
 unfolding fixedAt
 returns c = search (reading, cases, fixed-whole, needs) depth 12
 
--- src/number.rt:49:9
 returns-2 : tie.Need-returns-2
 unfolding fixedAt
 returns-2 c = search (reading, cases, fixed-whole, needs) depth 12
 
--- src/number.rt:52:9
 returns-3 : tie.Need-returns-3
 unfolding fixedAt
 returns-3 c = search (reading, cases, fixed-whole, needs) depth 12
 
--- src/number.rt:55:9
 returns-4 : tie.Need-returns-4
 unfolding fixedAt
 returns-4 c = search (reading, cases, fixed-whole, needs) depth 12
 
--- src/number.rt:57:26
 big-endian-requires : tie.Need-big-endian-requires
 unfolding fixedAt
 big-endian-requires c κs = (omega arith, width-fits _ (omega arith))
 
--- src/number.rt:57:61
 add-t7 : tie.Need-add-t7
 add-t7 c = search needs
 
--- src/number.rt:42:1
 returns-5 : tie.Need-returns-5
 unfolding fixedAt
 returns-5 c = search (reading, cases, fixed-whole, needs) depth 12

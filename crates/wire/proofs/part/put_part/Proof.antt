@@ -4,8 +4,6 @@ use Rattle.wire.proofs.Puts.{Storing, stores, length-part, part-at}
 use borrow.Author.Needs.{needs}
 use Rattle.wire.proofs.part.put_part.Statement.{statement}
 use Rattle.wire.proofs.part.put_part.Tie as tie
-use Rattle.wire.proofs.part.put_part.Reads as reads
-use Rattle.wire.proofs.part.put_part.Lts as lts
 
 abbrev Inv-loop : tie.InvT-loop
 Inv-loop d₀ at s start len i₀ d i = Storing (part s start len) d₀ d at i
@@ -13,47 +11,36 @@ Inv-loop d₀ at s start len i₀ d i = Storing (part s start len) d₀ d at i
 abbrev μ-loop : tie.MeasureT-loop
 μ-loop d₀ at s start len i₀ d i = len - i
 
--- src/copy.rt:13:5
 loop-holds : tie.Need-loop-holds Inv-loop μ-loop
 loop-holds c = search (length-part, part-at, stores, needs)
 
--- src/copy.rt:14:23
 add-d : tie.Need-add-d Inv-loop μ-loop
 add-d c = search (length-part, part-at, stores, needs)
 
--- src/copy.rt:14:21
 shared-slice-read-d : tie.Need-shared-slice-read-d Inv-loop μ-loop
 shared-slice-read-d c = search (length-part, part-at, stores, needs)
 
--- src/copy.rt:14:11
 add-d-2 : tie.Need-add-d-2 Inv-loop μ-loop
 add-d-2 c = search (length-part, part-at, stores, needs)
 
--- src/copy.rt:14:9
 slice-write-d : tie.Need-slice-write-d Inv-loop μ-loop
 slice-write-d c = search (length-part, part-at, stores, needs)
 
--- src/copy.rt:15:9
 add-i : tie.Need-add-i Inv-loop μ-loop
 add-i c = search (length-part, part-at, stores, needs)
 
--- src/copy.rt:13:5
 loop-less : tie.Need-loop-less Inv-loop μ-loop
 loop-less c = search (length-part, part-at, stores, needs)
 
--- src/copy.rt:13:5
 loop-again : tie.Need-loop-again Inv-loop μ-loop
 loop-again c = search (length-part, part-at, stores, needs)
 
--- src/copy.rt:17:5
 add-result : tie.Need-add-result Inv-loop μ-loop
 add-result c = search (length-part, part-at, stores, needs)
 
--- src/copy.rt:8:1
 same-length : tie.Need-same-length Inv-loop μ-loop
 same-length c = search (length-part, part-at, stores, needs)
 
--- src/copy.rt:8:1
 returns : tie.Need-returns Inv-loop μ-loop
 returns c = search (length-part, part-at, stores, needs)
 

@@ -5,48 +5,36 @@ use Rattle.wire.proofs.Puts.{shown-whole}
 use borrow.Author.Needs.{needs}
 use Rattle.wire.proofs.part.shown_in.Statement.{statement}
 use Rattle.wire.proofs.part.shown_in.Tie as tie
-use Rattle.wire.proofs.part.shown_in.Reads as reads
-use Rattle.wire.proofs.part.shown_in.Lts as lts
 
--- src/part.rt:26:9
 slice-aggregate-result : tie.Need-slice-aggregate-result
 slice-aggregate-result c = search needs
 
--- src/part.rt:26:9
 returns : tie.Need-returns
 unfolding shown
 returns c = search cases depth 12
 
--- src/part.rt:28:8
 sub-if2 : tie.Need-sub-if2
 sub-if2 c = search needs
 
--- src/part.rt:29:9
 slice-aggregate-result-2 : tie.Need-slice-aggregate-result-2
 slice-aggregate-result-2 c = search needs
 
--- src/part.rt:29:9
 returns-2 : tie.Need-returns-2
 unfolding shown
 returns-2 c = search cases depth 12
 
--- src/part.rt:31:15
 add-end : tie.Need-add-end
 add-end c = search needs
 
--- src/part.rt:32:5
 sub-result : tie.Need-sub-result
 sub-result c = search needs
 
--- src/part.rt:32:5
 part-result-start : tie.Need-part-result-start
 part-result-start c = search needs
 
--- src/part.rt:32:5
 part-result-end : tie.Need-part-result-end
 part-result-end c = search needs
 
--- src/part.rt:22:1
 returns-3 : tie.Need-returns-3
 returns-3 c = shown-whole _ _ _ (omega arith) (omega arith)
 

@@ -3,19 +3,13 @@ use Rattle.wire.proofs.Shortest.{extra-le, length-shortest}
 use borrow.Author.Needs.{needs}
 use Rattle.wire.proofs.varint.len.Statement.{statement}
 use Rattle.wire.proofs.varint.len.Tie as tie
-use Rattle.wire.proofs.varint.len.Reads as reads
-use Rattle.wire.proofs.varint.len.Lts as lts
-use Rattle.wire.proofs.varint.extra_bytes.Reads as extra-bytes-reads
 
--- src/varint.rt:71:5
 extra-bytes-requires : tie.Need-extra-bytes-requires
 extra-bytes-requires c κs = search needs
 
--- src/varint.rt:71:5
 add-result : tie.Need-add-result
 add-result c = omega (arith, extra-le 8 (c .before .args .x), length-shortest (c .before .args .x))
 
--- src/varint.rt:68:1
 returns : tie.Need-returns
 returns c = omega (arith, extra-le 8 (c .before .args .x), length-shortest (c .before .args .x))
 

@@ -3,37 +3,25 @@ use Rattle.wire.proofs.Varints.{put-varint}
 use borrow.Author.Needs.{needs}
 use Rattle.wire.proofs.varint.put_in.Statement.{statement}
 use Rattle.wire.proofs.varint.put_in.Tie as tie
-use Rattle.wire.proofs.varint.put_in.Reads as reads
-use Rattle.wire.proofs.varint.put_in.Lts as lts
-use Rattle.wire.proofs.number.put_in.Reads as put-in-reads
-use Rattle.wire.proofs.varint.extra_bytes.Reads as extra-bytes-reads
-use Rattle.wire.proofs.varint.first_byte.Reads as first-byte-reads
 
--- src/varint.rt:92:9
 extra-bytes-requires : tie.Need-extra-bytes-requires
 extra-bytes-requires c κs = search needs
 
--- src/varint.rt:93:13
 first-byte-requires : tie.Need-first-byte-requires
 first-byte-requires c κs = search needs
 
--- src/varint.rt:93:5
 slice-write-d : tie.Need-slice-write-d
 slice-write-d c = search (put-varint, puts-same, needs)
 
--- src/varint.rt:94:23
 add-put-in : tie.Need-add-put-in
 add-put-in c = search needs
 
--- src/varint.rt:94:5
 put-in-requires : tie.Need-put-in-requires
 put-in-requires c κs = search (put-varint, puts-same, needs)
 
--- src/varint.rt:88:1
 same-length : tie.Need-same-length
 same-length c = search (put-varint, puts-same, needs)
 
--- src/varint.rt:88:1
 returns : tie.Need-returns
 returns c = search (put-varint, puts-same, needs)
 

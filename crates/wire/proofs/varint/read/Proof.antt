@@ -7,73 +7,53 @@ use Rattle.wire.specs.Varints.{varintAt}
 use borrow.Author.Needs.{needs}
 use Rattle.wire.proofs.varint.read.Statement.{statement}
 use Rattle.wire.proofs.varint.read.Tie as tie
-use Rattle.wire.proofs.varint.read.Reads as reads
-use Rattle.wire.proofs.varint.read.Lts as lts
-use Rattle.wire.proofs.number.big_endian.Reads as big-endian-reads
-use Rattle.wire.proofs.varint.low_bits.Reads as low-bits-reads
-use Rattle.wire.proofs.varint.ones.Reads as ones-reads
 
--- src/varint.rt:33:9
 returns : tie.Need-returns
 unfolding varintAt
 returns c = search (reading, cases, varint-cases, needs) depth 12
 
--- src/varint.rt:36:9
 returns-2 : tie.Need-returns-2
 unfolding varintAt
 returns-2 c = search (reading, cases, varint-cases, needs) depth 12
 
--- src/varint.rt:38:13
 shared-slice-read-b : tie.Need-shared-slice-read-b
 shared-slice-read-b c = search needs
 
--- src/varint.rt:41:37
 cast-t13 : tie.Need-cast-t13
 cast-t13 c = search needs
 
--- src/varint.rt:41:53
 add-t14 : tie.Need-add-t14
 add-t14 c = search needs
 
--- src/varint.rt:41:9
 returns-3 : tie.Need-returns-3
 returns-3 c = search (reading, cases, varint-cases, needs) depth 12
 
--- src/varint.rt:43:9
 ones-requires : tie.Need-ones-requires
 ones-requires c κs = search needs
 
--- src/varint.rt:44:8
 sub-if4 : tie.Need-sub-if4
 sub-if4 c = search needs
 
--- src/varint.rt:45:9
 returns-4 : tie.Need-returns-4
 returns-4 c = search (reading, cases, varint-cases, needs) depth 12
 
--- src/varint.rt:47:39
 add-big-endian : tie.Need-add-big-endian
 add-big-endian c = search needs
 
--- src/varint.rt:47:50
 low-bits-requires : tie.Need-low-bits-requires
 low-bits-requires c κs = search needs
 
--- src/varint.rt:47:9
 big-endian-requires : tie.Need-big-endian-requires
 big-endian-requires c κs =
     let at = c .before .before .before .before .before .before .before .before .args .at in
     (omega arith, rw (c .low-bits .ensures, c .before .before .ones .ensures) (low-fits _ (c .before .before .before .before .shared-slice-known2 .given at .fits)))
 
--- src/varint.rt:48:32
 add-t7 : tie.Need-add-t7
 add-t7 c = search needs
 
--- src/varint.rt:48:32
 add-t17 : tie.Need-add-t17
 add-t17 c = search needs
 
--- src/varint.rt:29:1
 returns-5 : tie.Need-returns-5
 returns-5 c = search (reading, cases, varint-cases, needs) depth 12
 

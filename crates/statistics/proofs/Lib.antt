@@ -1,0 +1,8 @@
+-- What the code's answers say (Said), the base times (Times), the buffer of schema records (Records, Buffers), the loops (Loops), and the parts one after the other (Parts).
+pub mod Said
+pub mod Times
+pub mod Records
+pub mod Buffers
+pub mod Loops
+pub mod Parts
+pub mod Whole

@@ -1,0 +1,5 @@
+pub mod Bases
+pub mod Header
+pub mod Statistics
+pub mod Said
+pub mod Buffer
