@@ -16,6 +16,7 @@
 #ifndef SSTABLE_H
 #define SSTABLE_H
 
+#include <stdbool.h>
 #include <stddef.h>
 #include <stdint.h>
 
@@ -34,6 +35,26 @@ size_t sstable_varint_len(uint64_t value);
 /* Stores the shortest varint of `value` at the start of `out`. Refuses in output: 1 at 0; 13 with the length needed.
  * Words: 3 the length stored. */
 void sstable_varint_put(uint8_t *out, size_t out_len, uint64_t value, uint64_t answer[4]);
+
+/* A whole Statistics.db: its contents, validation entry and serialization header. Fills the start of `schema` with the 16-byte
+ * schema records (at most 159 of them, 2,544 bytes). Refuses in statistics: 1 at 0, and the file's own; in output: 1 at 0, and
+ * after all else 13 with the bytes needed.
+ * Words: 3 timestamp base (the 64 bits of the signed number), 4 local deletion time base, 5 TTL base, 6 and 7 place and length of
+ * the partitioner's name, 8 the bits of the false-positive chance, 9 clustering, 10 static and 11 regular columns. */
+void sstable_statistics_read(const uint8_t *file, size_t file_len, uint8_t *schema, size_t schema_len, uint64_t answer[12]);
+
+/* Checks schema records where names are not read. Refuses in schema: 1 at 0; 10 at the first record that Statistics does not give.
+ * Words: 3 clustering, 4 static and 5 regular columns. */
+void sstable_schema_check(const uint8_t *schema, size_t schema_len, uint64_t answer[6]);
+
+/* The same, and 10 too where a name's place passes the end of the Statistics beside the schema, of which only the length counts. */
+void sstable_schema_check_named(const uint8_t *schema, size_t schema_len, const uint8_t *statistics, size_t statistics_len,
+                                uint64_t answer[6]);
+
+/* Whether two schemas are equal in roles, type lines, reversed marks and names; `t` and `u` are the Statistics in which the names of
+ * `a` and `b` stand. A name's place that is outside shows no bytes. */
+bool sstable_schema_same(const uint8_t *a, size_t a_len, const uint8_t *t, size_t t_len, const uint8_t *b, size_t b_len,
+                         const uint8_t *u, size_t u_len);
 
 /* A whole Scylla.db. Refuses in scylla: 1 at 0; 2 at a field that its component or the file cuts, or at a size or length that
  * announces more than is left; 3 at the first byte left over in a component of tag 1 to 4, or after the last component; 4 at an

@@ -24,6 +24,8 @@ pub mod kind {
     pub const STEP_RAW: u8 = 11;
     pub const VARINT_LEN: u8 = 12;
     pub const VARINT_PUT: u8 = 13;
+    pub const SCHEMA: u8 = 14;
+    pub const SAME: u8 = 15;
 }
 
 /// One case: its kind and its blobs.
@@ -143,6 +145,22 @@ pub enum Call<'a> {
         value: u64,
         output: usize,
     },
+    /// Schema records, each name's place tested where Statistics stand beside.
+    Schema {
+        schema: &'a [u8],
+        statistics: Option<&'a [u8]>,
+    },
+    Same {
+        a: Named<'a>,
+        b: Named<'a>,
+    },
+}
+
+/// Schema records and the Statistics in which their names stand.
+#[derive(Clone, Copy)]
+pub struct Named<'a> {
+    pub schema: &'a [u8],
+    pub statistics: &'a [u8],
 }
 
 /// One side of a merge of files.
@@ -179,6 +197,7 @@ pub fn parse<'a>(kind: u8, blobs: &[&'a [u8]]) -> Result<Call<'a>, String> {
         LIST | STATISTICS | SCYLLA | WRITE | MERGE => parse_files(kind, blobs),
         WRITE_RAW | MERGE_RAW => parse_output(kind, blobs),
         LIST_RAW | WALK_RAW | STEP_RAW => parse_data(kind, blobs),
+        SCHEMA | SAME => parse_schema(kind, blobs),
         _ => parse_varint(kind, blobs),
     }
 }
@@ -276,6 +295,25 @@ fn parse_varint<'a>(kind: u8, blobs: &[&'a [u8]]) -> Result<Call<'a>, String> {
         },
         _ => return Err(malformed(kind, blobs)),
     })
+}
+
+/// The kinds that are given schema records alone.
+fn parse_schema<'a>(kind: u8, blobs: &[&'a [u8]]) -> Result<Call<'a>, String> {
+    Ok(match (kind, blobs) {
+        (kind::SCHEMA, [schema, statistics @ ..]) if statistics.len() < 2 => Call::Schema {
+            schema,
+            statistics: statistics.first().copied(),
+        },
+        (kind::SAME, [schema_a, statistics_a, schema_b, statistics_b]) => Call::Same {
+            a: named(schema_a, statistics_a),
+            b: named(schema_b, statistics_b),
+        },
+        _ => return Err(malformed(kind, blobs)),
+    })
+}
+
+fn named<'a>(schema: &'a [u8], statistics: &'a [u8]) -> Named<'a> {
+    Named { schema, statistics }
 }
 
 fn files<'a>(statistics: &'a [u8], data: &'a [u8]) -> Files<'a> {
@@ -397,6 +435,27 @@ mod tests {
             line(kind::VARINT_PUT, &[&[5], &[1]]),
             "ok put 1 af63b84c8601af60 05"
         );
+    }
+
+    #[test]
+    fn schema_lines() {
+        let line = |kind: u8, blobs: &[&[u8]]| run_case(kind, blobs, true);
+        let mut schema = [0; 32];
+        schema[..4].copy_from_slice(&[0, 33, 0, 255]);
+        schema[16..28].copy_from_slice(&[3, 17, 0, 4, 0, 0, 0, 1, 0, 0, 0, 1]);
+        let checked = |names: &[&[u8]]| line(kind::SCHEMA, &[&[&schema[..]], names].concat());
+        assert_eq!(checked(&[]), "ok schema 0 0 1");
+        assert_eq!(checked(&[b"xy"]), "ok schema 0 0 1");
+        assert_eq!(checked(&[b"x"]), "refused 10 schema 16");
+        assert_eq!(
+            checked(&[b"x", b"y"]),
+            "malformed case of kind 14 with 3 blobs"
+        );
+        let same = |t: &[u8], u: &[u8]| line(kind::SAME, &[&schema, t, &schema, u]);
+        assert_eq!(same(b"xy", b"zyx"), "ok same 1");
+        assert_eq!(same(b"xy", b"xz"), "ok same 0");
+        assert_eq!(same(b"x", b""), "refused 10 schemaA 16");
+        assert_eq!(same(b"xy", b""), "refused 10 schemaB 16");
     }
 
     #[test]

@@ -1,3 +1,4 @@
 pub mod Words
 pub mod Varints
 pub mod Scylla
+pub mod Statistics

@@ -8,17 +8,17 @@ use Rattle.scylla.specs.Components.{saidScylla, scyllaOf}
 use Rattle.scylla.specs.declared.component.Components.{Components}
 use Rattle.scylla.specs.declared.Answer.{Answer}
 use Rattle.scylla.specs.declared.Answer.the-variants.{Taken, Refused}
-use Rattle.sstable.specs.Scylla.{componentWords, components, scyllaRead}
-use Rattle.sstable.proofs.Words.{words-taken, words-refused}
+use Rattle.sstable.specs.Scylla.{componentWords, scyllaRead}
+use Rattle.sstable.proofs.Words.{words-taken, words-refused, mapped-taken, mapped-refused}
 
 module _ (s : List ℕ) (r : Answer) (e : saidScylla r ≡ scyllaOf s) where
   pub scylla-is : (c : Components) → r ≡ Taken c → 0 ∷ 0 ∷ 0 ∷ componentWords c ≡ scyllaRead s
-  unfolding scyllaRead components saidScylla
-  scylla-is c f = words-taken _ _ _ (rw (← e, f))
+  unfolding scyllaRead saidScylla
+  scylla-is c f = words-taken _ _ _ (mapped-taken componentWords c _ (rw f at e))
 
   pub scylla-bad : (x : Refusal) (m n : ℕ) → r ≡ Refused x → m ≡ faultNumber (x .fault) → n ≡ sliceNumber (x .slice)
       → m ∷ n ∷ x .place ∷ 0 ∷ 0 ∷ 0 ∷ 0 ∷ 0 ∷ 0 ∷ 0 ∷ 0 ∷ 0 ∷ 0 ∷ 0 ∷ [] ≡ scyllaRead s
-  unfolding scyllaRead components saidScylla
-  scylla-bad x m n f g h = words-refused _ _ (x .fault) (x .slice) _ _ _ (rw (← e, f)) g h
+  unfolding scyllaRead saidScylla
+  scylla-bad x m n f g h = words-refused _ _ (x .fault) (x .slice) _ _ _ (mapped-refused componentWords (x .fault) (x .slice) (x .place) _ (rw f at e)) g h
 
 pub ruleset reads-scylla = (scylla-is, scylla-bad)

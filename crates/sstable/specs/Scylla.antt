@@ -1,10 +1,9 @@
 -- The call of the C interface for Scylla.db. Assumes nothing.
 use Prim.Native.Nat.{ℕ}
 use mathlib.Core.List.{List, [], _∷_}
-use Rattle.wire.specs.Refusals.{Outcome, taken, refused}
 use Rattle.scylla.specs.Components.{scyllaOf}
 use Rattle.scylla.specs.declared.component.Components.{Components}
-use Rattle.sstable.specs.Words.{words}
+use Rattle.sstable.specs.Words.{words, mapped}
 
 -- feature bits, run identifier, and offset and length of the bodies of tags 1 to 4
 abbrev pub componentWords : Components → List ℕ
@@ -22,10 +21,6 @@ componentWords c =
     ∷ c .run .length
     ∷ []
 
-unfoldable pub components : Outcome Components → Outcome (List ℕ)
-components (taken c) = taken (componentWords c)
-components (refused f z p) = refused f z p
-
 -- the file s, read whole
 unfoldable pub scyllaRead : List ℕ → List ℕ
-scyllaRead s = words (0 ∷ 0 ∷ 0 ∷ 0 ∷ 0 ∷ 0 ∷ 0 ∷ 0 ∷ 0 ∷ 0 ∷ 0 ∷ []) (components (scyllaOf s))
+scyllaRead s = words (0 ∷ 0 ∷ 0 ∷ 0 ∷ 0 ∷ 0 ∷ 0 ∷ 0 ∷ 0 ∷ 0 ∷ 0 ∷ []) (mapped componentWords (scyllaOf s))

@@ -7,3 +7,8 @@ use Rattle.wire.specs.Refusals.{faultNumber, sliceNumber, Outcome, taken, refus
 unfoldable pub words : List ℕ → Outcome (List ℕ) → List ℕ
 words zs (taken ws) = 0 ∷ 0 ∷ 0 ∷ ws
 words zs (refused f z p) = faultNumber f ∷ sliceNumber z ∷ p ∷ zs
+
+-- what a call gives, as words
+unfoldable pub mapped : {A : Type 0} → (A → List ℕ) → Outcome A → Outcome (List ℕ)
+mapped f (taken a) = taken (f a)
+mapped f (refused x z p) = refused x z p

@@ -17,6 +17,32 @@ extern "C" {
     );
     fn sstable_varint_len(value: u64) -> usize;
     fn sstable_varint_put(out: *mut u8, out_len: usize, value: u64, answer: *mut [u64; 4]);
+    fn sstable_statistics_read(
+        file: *const u8,
+        file_len: usize,
+        schema: *mut u8,
+        schema_len: usize,
+        answer: *mut [u64; 12],
+    );
+    fn sstable_schema_check(schema: *const u8, schema_len: usize, answer: *mut [u64; 6]);
+    fn sstable_schema_check_named(
+        schema: *const u8,
+        schema_len: usize,
+        statistics: *const u8,
+        statistics_len: usize,
+        answer: *mut [u64; 6],
+    );
+    fn sstable_schema_same(
+        a: *const u8,
+        a_len: usize,
+        t: *const u8,
+        t_len: usize,
+        b: *const u8,
+        b_len: usize,
+        u: *const u8,
+        u_len: usize,
+    ) -> bool;
+    fn sstable_scylla_read(file: *const u8, file_len: usize, answer: *mut [u64; 14]);
 }
 
 /// Why a call has no answer.
@@ -71,6 +97,98 @@ pub fn varint_put(output: &mut [u8], value: u64) -> Answer<usize> {
     // answer has room for four words.
     unsafe { sstable_varint_put(output.as_mut_ptr(), output.len(), value, &mut words) };
     taken(&words).map(|rest| rest[0] as usize)
+}
+
+/// What a Statistics says beside the schema records that it puts into the lent
+/// buffer: the words from 3 on.
+pub fn statistics_read(file: &[u8], schema: &mut [u8]) -> Answer<[u64; 9]> {
+    let words = asked::<12>(|words| {
+        // SAFETY: pointers and lengths are those of slices, the second lent for
+        // writing, and the answer has room for twelve words.
+        unsafe {
+            sstable_statistics_read(
+                file.as_ptr(),
+                file.len(),
+                schema.as_mut_ptr(),
+                schema.len(),
+                words,
+            )
+        }
+    })?;
+    taken(&words).map(|rest| rest.try_into().expect("nine words"))
+}
+
+/// Checks schema records: counts of clustering, static and regular columns.
+pub fn schema_check(schema: &[u8]) -> Answer<[u64; 3]> {
+    let words = asked::<6>(|words| {
+        // SAFETY: pointer and length are those of a slice, and the answer has
+        // room for six words.
+        unsafe { sstable_schema_check(schema.as_ptr(), schema.len(), words) }
+    })?;
+    taken(&words).map(|rest| rest.try_into().expect("three words"))
+}
+
+/// The same, and each name's place in `statistics`.
+pub fn schema_check_named(schema: &[u8], statistics: &[u8]) -> Answer<[u64; 3]> {
+    let words = asked::<6>(|words| {
+        // SAFETY: pointers and lengths are those of slices, and the answer has
+        // room for six words.
+        unsafe {
+            sstable_schema_check_named(
+                schema.as_ptr(),
+                schema.len(),
+                statistics.as_ptr(),
+                statistics.len(),
+                words,
+            )
+        }
+    })?;
+    taken(&words).map(|rest| rest.try_into().expect("three words"))
+}
+
+/// Whether two schemas that the named check takes are equal.
+pub fn schema_same(a: &[u8], t: &[u8], b: &[u8], u: &[u8]) -> bool {
+    // SAFETY: pointers and lengths are those of slices.
+    unsafe {
+        sstable_schema_same(
+            a.as_ptr(),
+            a.len(),
+            t.as_ptr(),
+            t.len(),
+            b.as_ptr(),
+            b.len(),
+            u.as_ptr(),
+            u.len(),
+        )
+    }
+}
+
+/// What a Scylla.db says: the words from 3 on.
+pub fn scylla_read(file: &[u8]) -> Answer<[u64; 11]> {
+    let words = asked::<14>(|words| {
+        // SAFETY: pointer and length are those of a slice, and the answer has
+        // room for fourteen words.
+        unsafe { sstable_scylla_read(file.as_ptr(), file.len(), words) }
+    })?;
+    taken(&words).map(|rest| rest.try_into().expect("eleven words"))
+}
+
+/// Lends `call` an answer of N words; those behind it must stay as they are.
+fn asked<const N: usize>(call: impl FnOnce(&mut [u64; N])) -> Answer<[u64; N]> {
+    #[repr(C)]
+    struct Lent<const N: usize> {
+        words: [u64; N],
+        behind: [u64; 2],
+    }
+    let mut lent = Lent {
+        words: [UNTOUCHED; N],
+        behind: [UNTOUCHED; 2],
+    };
+    call(&mut lent.words);
+    match std::hint::black_box(lent) {
+        Lent { words, behind } if behind == [UNTOUCHED; 2] => Ok(words),
+        _ => Err(Fault::Broken(format!("more than {N} words stored"))),
+    }
 }
 
 /// The words behind the first three, or the refusal that those give.

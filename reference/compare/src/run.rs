@@ -25,9 +25,12 @@ pub fn run(plan: &Plan) -> Result<(), Failed> {
     for kind in kinds::all().iter().filter(|kind| chosen(kind.as_ref())) {
         compared += run_limits(kind.as_ref())?;
         let count = plan.count.unwrap_or(kind.count());
+        let mut accepted = 0;
         for index in plan.from..plan.from.saturating_add(count) {
-            run_one(kind.as_ref(), plan.seed, index)?;
+            accepted += u64::from(run_one(kind.as_ref(), plan.seed, index)?);
         }
+        let share = 100.0 * accepted as f64 / count.max(1) as f64;
+        println!("{}: {count} cases, {share:.1}% accepted", kind.name());
         compared += count;
     }
     if compared == 0 {
@@ -50,14 +53,15 @@ fn case_of(kind: &dyn Kind, seed: u64, index: u64) -> Case {
     kind.generate(&mut Rng::new(mixed ^ (mixed >> 31)))
 }
 
-fn run_one(kind: &dyn Kind, seed: u64, index: u64) -> Result<(), Failed> {
+/// Compares one case; whether it is accepted.
+fn run_one(kind: &dyn Kind, seed: u64, index: u64) -> Result<bool, Failed> {
     let case = case_of(kind, seed, index);
     let lent = case.lent();
     let call = parse(case.kind, &lent).map_err(Failed::new)?;
     let library = kind.library(&call, true).expect("a call of its own kind");
     let reference = kind.reference(&call, true);
     if library == reference {
-        return Ok(());
+        return Ok(reference.starts_with("ok "));
     }
     println!(
         "difference: kind {}, seed {seed}, case {index}",

@@ -1,10 +1,11 @@
 //! What the reader answers to a case, and the lines that say so.
 
-use super::{state, Call, Files, Raw};
+use super::{state, Call, Files, Named, Raw};
 use crate::data::{Bases, Source};
 use crate::merge::merge;
 use crate::record::{self, Record};
-use crate::refusal::{Refusal, Side};
+use crate::refusal::{test_limit, Part, Refusal, Side};
+use crate::schema::Schema;
 use crate::scylla::{read_scylla, ScyllaInfo};
 use crate::statistics::{read_statistics, read_statistics_within, Stats};
 use crate::varint;
@@ -34,6 +35,25 @@ fn try_answer(call: &Call, full: bool) -> Result<String, Refusal> {
             Ok(varint_line(value, next - at))
         }
         Call::VarintLen { value } => Ok(length_line(varint::len(value))),
+        Call::Schema { schema, statistics } => {
+            let checked = check_schema(schema, statistics)?;
+            let roles = [
+                checked.clustering(),
+                checked.statics(),
+                checked.regulars(),
+            ];
+            Ok(schema_line(roles.map(|columns| columns.len() as u64)))
+        }
+        Call::Same { a, b } => {
+            let of = |Named { schema, statistics }| check_schema(schema, Some(statistics));
+            let left = of(a).map_err(|r| r.on(Side::A))?;
+            let right = of(b).map_err(|r| r.on(Side::B))?;
+            Ok(same_line(left.equals(
+                a.statistics,
+                &right,
+                b.statistics,
+            )))
+        }
         _ => stored(call, full),
     }
 }
@@ -92,6 +112,15 @@ fn merge_files(a: Files, b: Files, output: usize, full: bool) -> Result<String, 
     Ok(merge_line(&out, bases, full))
 }
 
+/// Schema records alone: 1, then 10; the Statistics beside them have no limit.
+pub fn check_schema(schema: &[u8], statistics: Option<&[u8]>) -> Result<Schema, Refusal> {
+    test_limit(Part::Schema, schema.len())?;
+    match statistics {
+        Some(statistics) => Schema::check_with_names(schema, statistics),
+        None => Schema::check(schema),
+    }
+}
+
 /// FNV-1a, 64 bits.
 pub fn fnv(bytes: &[u8]) -> u64 {
     bytes.iter().fold(0xCBF2_9CE4_8422_2325, |hash, &b| {
@@ -111,6 +140,15 @@ pub fn varint_line(value: u64, len: usize) -> String {
 
 pub fn length_line(len: usize) -> String {
     format!("ok length {len}")
+}
+
+/// Counts of clustering, static and regular columns.
+pub fn schema_line([clustering, statics, regulars]: [u64; 3]) -> String {
+    format!("ok schema {clustering} {statics} {regulars}")
+}
+
+pub fn same_line(same: bool) -> String {
+    format!("ok same {}", u8::from(same))
 }
 
 pub fn list_line(records: &[[u8; record::LEN]], full: bool) -> String {

@@ -7,6 +7,13 @@ use reference::batch::answer::answer;
 use reference::batch::{Call, Case};
 use reference::rng::Rng;
 
+use crate::library::Answer;
+
+mod damage;
+mod schema;
+mod scylla;
+mod statistics;
+mod type_strings;
 mod varint;
 
 /// One kind of calls.
@@ -40,7 +47,17 @@ pub struct Limit {
 
 /// The kinds that the library has so far.
 pub fn all() -> Vec<Box<dyn Kind>> {
-    vec![Box::new(varint::Varint)]
+    vec![
+        Box::new(varint::Varint),
+        Box::new(statistics::Statistics),
+        Box::new(schema::Schema),
+        Box::new(scylla::Scylla),
+    ]
+}
+
+/// An answer's line, or its fault's.
+fn line(answer: Answer<String>) -> String {
+    answer.unwrap_or_else(|fault| fault.to_string())
 }
 
 /// The library's answer line to any call, or nothing if it has none such yet.

@@ -6,8 +6,8 @@ use reference::rng::Rng;
 use reference::varint::{self, MAX_LEN};
 use reference::LIMIT;
 
-use super::{Kind, Limit};
-use crate::library::{self, lend, Answer};
+use super::{line, Kind, Limit};
+use crate::library::{self, lend};
 
 pub struct Varint;
 
@@ -62,10 +62,6 @@ impl Kind for Varint {
             limit("put into 1073741825 bytes", room),
         ]
     }
-}
-
-fn line(answer: Answer<String>) -> String {
-    answer.unwrap_or_else(|fault| fault.to_string())
 }
 
 fn read_line(bytes: &[u8], at: usize, end: usize) -> String {
