@@ -37,22 +37,14 @@ fn try_answer(call: &Call, full: bool) -> Result<String, Refusal> {
         Call::VarintLen { value } => Ok(length_line(varint::len(value))),
         Call::Schema { schema, statistics } => {
             let checked = check_schema(schema, statistics)?;
-            let roles = [
-                checked.clustering(),
-                checked.statics(),
-                checked.regulars(),
-            ];
+            let roles = [checked.clustering(), checked.statics(), checked.regulars()];
             Ok(schema_line(roles.map(|columns| columns.len() as u64)))
         }
         Call::Same { a, b } => {
             let of = |Named { schema, statistics }| check_schema(schema, Some(statistics));
             let left = of(a).map_err(|r| r.on(Side::A))?;
             let right = of(b).map_err(|r| r.on(Side::B))?;
-            Ok(same_line(left.equals(
-                a.statistics,
-                &right,
-                b.statistics,
-            )))
+            Ok(same_line(left.equals(a.statistics, &right, b.statistics)))
         }
         _ => stored(call, full),
     }

@@ -220,22 +220,9 @@ fn file(rng: &mut Rng) -> Vec<u8> {
     let mut out = Vec::new();
     maker.number(&mut out, tags.len(), 4);
     for tag in tags {
-        out.extend(tag.to_be_bytes());
-        let mut size = Vec::new();
-        let twist = maker.twist.take();
         let body = maker.body(tag);
-        // The size stands first, so it is twisted first.
-        maker.twist = twist;
-        maker.number(&mut size, body.len(), 4);
-        let twisted_inside = maker.twist.filter(|&left| left < 8 && twist != Some(0));
-        let body = match twisted_inside {
-            Some(_) => maker.body(tag),
-            None => body,
-        };
-        if twisted_inside.is_some() {
-            size = (body.len() as u32).to_be_bytes().to_vec();
-        }
-        out.extend(size);
+        out.extend(tag.to_be_bytes());
+        maker.number(&mut out, body.len(), 4);
         out.extend(body);
     }
     if maker.rng.one_in(40) {

@@ -1,0 +1,31 @@
+use borrow.Author.Needs.{needs}
+use Rattle.wire.proofs.Choose.{cases}
+use Rattle.cell.proofs.Said.{answers as fields}
+use Rattle.partition.specs.Partitions.{deletedBy}
+use Rattle.partition.proofs.partitions.deleted_by.Statement.{statement}
+use Rattle.partition.proofs.partitions.deleted_by.Tie as tie
+use Rattle.partition.proofs.partitions.deleted_by.Reads as reads
+use Rattle.partition.proofs.partitions.deleted_by.Lts as lts
+
+-- src/partitions.rt:50:13
+returns : tie.Need-returns
+unfolding deletedBy
+returns c = search (fields, cases) depth 12
+
+-- src/partitions.rt:59:9
+returns-2 : tie.Need-returns-2
+unfolding deletedBy
+returns-2 c = search (fields, cases) depth 12
+
+-- src/partitions.rt:65:9
+returns-3 : tie.Need-returns-3
+unfolding deletedBy
+returns-3 c = search (fields, cases) depth 12
+
+-- src/partitions.rt:45:1
+returns-4 : tie.Need-returns-4
+unfolding deletedBy
+returns-4 c = search (fields, cases) depth 12
+
+pub deleted-by-spec : {M : Type 1} → statement M
+deleted-by-spec = tie.close (tie.spec returns returns-2 returns-3 returns-4)

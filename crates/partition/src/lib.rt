@@ -1,0 +1,2 @@
+// The header of a partition.
+pub mod partitions; // partitions.rt: key and deletion

@@ -1,0 +1,5 @@
+-- What the code's answers say (Said), the bits of all columns (Bits), what is read (Gives), and document 01's row (Vectors).
+pub mod Said
+pub mod Bits
+pub mod Gives
+pub mod Vectors
