@@ -2,3 +2,4 @@
 pub mod Said
 pub mod Pairs
 pub mod Doubles
+pub mod Vectors

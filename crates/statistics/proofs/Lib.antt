@@ -1,4 +1,4 @@
--- What the code's answers say (Said), the base times (Times), the buffer of schema records (Records, Buffers), the loops (Loops), and the parts one after the other (Parts).
+-- What the code's answers say (Said), the base times (Times), the buffer of schema records (Records, Buffers), the loops (Loops), the parts one after the other (Parts), the whole file (Whole), and examples (Vectors).
 pub mod Said
 pub mod Times
 pub mod Records
@@ -6,3 +6,4 @@ pub mod Buffers
 pub mod Loops
 pub mod Parts
 pub mod Whole
+pub mod Vectors

@@ -1,11 +1,12 @@
 //! `compare bench`: the library's time against the reference's.
 
+use std::hint::black_box;
 use std::time::Instant;
 
 use reference::rng::Rng;
-use reference::varint;
+use reference::{gen, read_statistics, varint};
 
-use crate::library::varint_read_words;
+use crate::library::{self, varint_read_words};
 use crate::Failed;
 
 const SIZE: usize = 100_000_000;
@@ -26,7 +27,17 @@ pub fn bench() -> Result<(), Failed> {
             _ => 4 + rng.index(6),
         }
     })?;
-    bench_varints("varints of 1 to 9 bytes evenly", |rng| 1 + rng.index(9))
+    bench_varints("varints of 1 to 9 bytes evenly", |rng| 1 + rng.index(9))?;
+    println!("best of {ROUNDS}; one read of a Statistics of 159 columns into a lent buffer");
+    bench_statistics("names of 1000 bytes, alike but for the last", |i| {
+        let last = char::from(i as u8);
+        format!("{}{last}", "n".repeat(999))
+    })?;
+    bench_statistics("names of 1 to 3 bytes", |i| match i % 3 {
+        0 => char::from(b'!' + i as u8 / 3).to_string(),
+        1 => format!("{i:02x}"),
+        _ => format!("c{i:02x}"),
+    })
 }
 
 /// The reference's read as the library's is called.
@@ -71,6 +82,57 @@ fn bench_varints(name: &str, length: impl Fn(&mut Rng) -> usize) -> Result<(), F
         library.count
     );
     Ok(())
+}
+
+/// A Statistics with as many columns as there may be: a key, 32 clustering, 63
+/// static and 63 regular ones, the names as `name` gives them.
+fn wide_statistics(name: impl Fn(usize) -> String) -> Vec<u8> {
+    let columns = |from: usize| {
+        let of = |i: usize| (name(i), "Int32Type".to_string());
+        (from..from + 63).map(of).collect()
+    };
+    gen::statistics(&gen::Text {
+        key: "UTF8Type".into(),
+        clustering: vec!["Int32Type".into(); 32],
+        statics: columns(0),
+        regulars: columns(63),
+        ..gen::Text::default()
+    })
+}
+
+fn bench_statistics(what: &str, name: impl Fn(usize) -> String) -> Result<(), Failed> {
+    let file = wide_statistics(name);
+    let told = read_statistics(&file).map_err(|r| Failed::new(format!("{what}: {r}")))?;
+    let mut stored = vec![0; 16 * 159];
+    let library = best_of(|| library::statistics_read(black_box(&file), &mut stored).is_ok());
+    let reference = best_of(|| read_statistics(black_box(&file)).is_ok());
+    if stored != told.schema {
+        return Err(Failed::new(format!(
+            "{what}: the library stores other records"
+        )));
+    }
+    println!(
+        "{what}: library {:.1} us, reference {:.1} us, ratio {:.2} ({} bytes)",
+        library * 1e6,
+        reference * 1e6,
+        library / reference,
+        file.len()
+    );
+    Ok(())
+}
+
+/// Seconds of one call, of which each round makes many.
+fn best_of(mut call: impl FnMut() -> bool) -> f64 {
+    const CALLS: u32 = 400;
+    let mut best = f64::INFINITY;
+    for _ in 0..ROUNDS {
+        let start = Instant::now();
+        for _ in 0..CALLS {
+            assert!(black_box(call()));
+        }
+        best = best.min(start.elapsed().as_secs_f64() / f64::from(CALLS));
+    }
+    best
 }
 
 struct Read {

@@ -106,7 +106,60 @@ fn run_limits(kind: &dyn Kind) -> Result<u64, Failed> {
 
 #[cfg(test)]
 mod tests {
+    use std::collections::BTreeSet;
+
+    use reference::batch::run_case;
+
     use super::*;
+
+    /// Number and slice of each refusal, or the first words of what is taken,
+    /// among the first cases.
+    fn outcomes(name: &str) -> BTreeSet<String> {
+        let all = kinds::all();
+        let kind = all.iter().find(|kind| kind.name() == name).unwrap();
+        let outcome = |index| {
+            let case = case_of(kind.as_ref(), 1, index);
+            let line = run_case(case.kind, &case.lent(), false);
+            let words: Vec<&str> = line.split(' ').collect();
+            match words[..] {
+                ["refused", number, slice, _] => format!("{number} {slice}"),
+                ["ok", "same", same] => format!("same {same}"),
+                _ => words[..2].join(" "),
+            }
+        };
+        (0..20_000).map(outcome).collect()
+    }
+
+    #[test]
+    fn every_outcome_is_met() {
+        let met = |name: &str, outcomes_wanted: &[&str]| {
+            let found = outcomes(name);
+            let wanted = outcomes_wanted.iter().map(|word| word.to_string());
+            assert_eq!(found, wanted.collect(), "{name}");
+        };
+        met(
+            "varint",
+            &["ok varint", "ok length", "ok put", "2 data", "13 output"],
+        );
+        met(
+            "statistics",
+            &[
+                "ok stats",
+                "2 statistics",
+                "3 statistics",
+                "5 statistics",
+                "7 statistics",
+                "8 statistics",
+                "9 statistics",
+                "13 output",
+            ],
+        );
+        let schemas = ["10 schema", "10 schemaA", "10 schemaB"];
+        let taken = ["ok schema", "same 0", "same 1"];
+        met("schema", &[schemas, taken].concat());
+        let scylla = ["2 scylla", "3 scylla", "4 scylla", "7 scylla", "9 scylla"];
+        met("scylla", &[&["ok scylla"][..], &scylla].concat());
+    }
 
     #[test]
     fn a_case_depends_on_seed_and_index_alone() {

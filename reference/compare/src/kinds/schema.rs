@@ -19,7 +19,7 @@ impl Kind for Schema {
     }
 
     fn count(&self) -> u64 {
-        250_000
+        1_000_000
     }
 
     fn generate(&self, rng: &mut Rng) -> Case {

@@ -18,7 +18,7 @@ impl Kind for Scylla {
     }
 
     fn count(&self) -> u64 {
-        250_000
+        1_000_000
     }
 
     fn generate(&self, rng: &mut Rng) -> Case {

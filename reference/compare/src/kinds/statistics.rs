@@ -24,7 +24,7 @@ impl Kind for Statistics {
     }
 
     fn count(&self) -> u64 {
-        250_000
+        500_000
     }
 
     fn generate(&self, rng: &mut Rng) -> Case {
