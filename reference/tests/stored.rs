@@ -15,7 +15,7 @@ fn every_stored_case_is_answered_as_expected() {
     let (cases, others): (Vec<PathBuf>, Vec<PathBuf>) = entries.partition(|p| is(p, "batch"));
     assert!(others.iter().all(|path| is(path, "expected")));
     assert_eq!(cases.len(), others.len());
-    assert!(cases.len() > 170);
+    assert!(cases.len() > 330);
     for path in cases {
         let bytes = fs::read(&path).unwrap();
         let stored = decode_cases(&bytes).expect("a container");

@@ -16,7 +16,8 @@ use Rattle.wire.proofs.BigEndian.{Fixed, fixed-gives}
 use Rattle.cell.specs.declared.fields.Deletion.{Deletion}
 use Rattle.cell.specs.declared.fields.Span.{Span}
 use Rattle.cell.proofs.Ranges.{Moves, moves-moves, fixed-moves}
-use Rattle.partition.specs.Partitions.{keyOf, biased, deletedBy, deletedAt, partitionAt}
+use Rattle.wire.specs.Times.{biased}
+use Rattle.partition.specs.Partitions.{keyOf, deletedBy, deletedAt, partitionAt}
 use Rattle.partition.specs.declared.partitions.Partition.{Partition}
 
 -- a partition's deletion in range, which no base bounds; or none
@@ -50,7 +51,7 @@ module _ (len start : ℕ) where
 
 biased-lt : (x : ℕ) → x < 2 ^ 64 → biased x < 2 ^ 64
 unfolding biased
-biased-lt x h = pick-ind (λ (y : ℕ). y < 2 ^ 64) _ _ (ltb x 9223372036854775808) (λ e. omega (arith, ltb-true x 9223372036854775808 e)) (λ e. omega arith)
+biased-lt x h = omega arith
 
 deleted-by : (x t at p n : ℕ) (P : ℕ → Type 0) → x ≤ 2147483647 → t < 2 ^ 64 → P n → Gives (deletedBy x t at p n) (λ d m. DeletedIn d × P m)
 unfolding deletedBy

@@ -7,7 +7,8 @@ use Rattle.wire.specs.Got.{Got, got, bad, on}
 use Rattle.wire.specs.BigEndian.{bigEndian, fixedAt}
 use Rattle.wire.specs.declared.refusal.Fault.the-variants.{PastEnd, OutOfRange}
 use Rattle.cell.specs.Fields.{span, deletion, live}
-use Rattle.partition.specs.Partitions.{keyOf, biased, deletedBy, deletedAt, partitionAt}
+use Rattle.wire.specs.Times.{biased}
+use Rattle.partition.specs.Partitions.{keyOf, deletedBy, deletedAt, partitionAt}
 
 -- the header with a key length of l, a local time that begins with x and ends with y, a mark that begins with t
 abbrev file : ℕ → ℕ → ℕ → ℕ → List ℕ

@@ -2,6 +2,7 @@
 use Prim.Native.Nat.{ℕ, _+_, _-_}
 use lib.Dec.{ltb, eqb}
 use Rattle.wire.specs.Choose.{pick, bind}
+use Rattle.wire.specs.Times.{biased}
 use Rattle.wire.specs.Got.{Got, got, bad, on, Reader}
 use Rattle.wire.specs.BigEndian.{fixedAt}
 use Rattle.wire.specs.declared.refusal.Fault.the-variants.{PastEnd, OutOfRange}
@@ -15,10 +16,6 @@ use Rattle.partition.specs.declared.partitions.Found.the-variants.{Read,
 -- a key of len bytes from place start on
 unfoldable pub keyOf : ℕ → ℕ → Span
 keyOf start len = pick (eqb len 0) (span 0 0) (span start len)
-
--- the signed number that 64 bits x spell, plus 2^63
-unfoldable pub biased : ℕ → ℕ
-biased x = pick (ltb x 9223372036854775808) (x + 9223372036854775808) (x - 9223372036854775808)
 
 -- the deletion of the local time x that stands at place at and the mark t (plus 2^63) from place p up to n: half of live is 5 at the other
 -- half

@@ -1,13 +1,14 @@
 // The header of a partition: key and deletion.
 ghost use mathlib.Core.Path.{_≡_};
 ghost use Rattle.cell.specs.Fields.{saidDeleted};
-ghost use Rattle.partition.specs.Partitions.{keyOf, biased, deletedBy, deletedAt, partitionAt, saidFound};
+ghost use Rattle.partition.specs.Partitions.{keyOf, deletedBy, deletedAt, partitionAt, saidFound};
 use cell::fields::Deleted;
 use cell::fields::Deletion;
 use cell::fields::Span;
 use wire::number;
 use wire::number::Num;
 use wire::refusal::Fault;
+use wire::times;
 
 // Where the key lies, and the deletion.
 pub struct Partition {
@@ -29,16 +30,6 @@ fn key_of(start: usize, len: usize) -> Span
         return Span { start: 0, len: 0 };
     }
     Span { start, len }
-}
-
-// The signed number that the bits spell, plus 2^63.
-pub fn biased_of(bits: u64) -> u64
-    ensures { λ r. ⌜ r ≡ biased bits ⌝ }
-{
-    if bits < 9223372036854775808 {
-        return bits + 9223372036854775808;
-    }
-    bits - 9223372036854775808
 }
 
 // The deletion of a local time that stands at at and a mark that stands at p, before next.
@@ -91,7 +82,7 @@ fn read_deleted(s: &[u8], at: usize, end: usize) -> Deleted
             }
             match number::read(s, next, end, 8) {
                 Num::Number { value, next: after } => {
-                    let mark = biased_of(value);
+                    let mark = times::biased_of(value);
                     deleted_by(local, mark, at, next, after)
                 }
                 Num::Refused { fault, place } => Deleted::Refused { fault, place },

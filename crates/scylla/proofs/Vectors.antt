@@ -11,7 +11,8 @@ use Rattle.wire.specs.declared.refusal.Fault.{Fault}
 use Rattle.wire.specs.declared.refusal.Fault.the-variants.{PastEnd, LeftOver, BadFlags, NotCarried, Repeated}
 use Rattle.wire.specs.declared.refusal.Slice.the-variants.{Scylla}
 use Rattle.sharding.specs.Regions.{lengthAt, times, passed}
-use Rattle.sharding.specs.Bounds.{biased, flagAt, tokenAt, boundAt, bothInclusive, isRange, isNext}
+use Rattle.wire.specs.Times.{biased}
+use Rattle.sharding.specs.Bounds.{flagAt, tokenAt, boundAt, bothInclusive, isRange, isNext}
 use Rattle.sharding.specs.Ranges.{leftAt, rightAt, rangesAfter, rangesAt, shardingAt}
 use Rattle.scylla.specs.Bodies.{uuid, featuresAt, stringAt, attributeAt, attributesAt, runAt}
 use Rattle.scylla.specs.Components.{place, components, absent, isSeen, tagAt, withSharding, withFeatures, withAttributes, withRun, bodyAt, componentAt, fileAt, scyllaOf}

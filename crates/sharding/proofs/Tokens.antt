@@ -12,7 +12,8 @@ use mir.Syntax.{w64}
 use mir.Val.{toZ}
 use mir.Facts.{toZ-pos, toZ-neg}
 use Rattle.wire.specs.Choose.{pick}
-use Rattle.sharding.specs.Bounds.{biased, bothInclusive, isNext}
+use Rattle.wire.specs.Times.{biased}
+use Rattle.sharding.specs.Bounds.{bothInclusive, isNext}
 use Rattle.sharding.specs.Ranges.{first}
 use Rattle.sharding.specs.declared.bound.Bound.{Bound}
 

@@ -3,6 +3,7 @@ use Prim.Native.Nat.{ℕ, _+_, _%_, _^_}
 use mathlib.Core.Bool.{Bool, true, false, not}
 use lib.Dec.{ltb, eqb}
 use Rattle.wire.specs.Choose.{pick}
+use Rattle.wire.specs.Times.{biased}
 use Rattle.wire.specs.Got.{Got, got, bad, on, Reader, _>>=_, ret}
 use Rattle.wire.specs.BigEndian.{fixedAt}
 use Rattle.wire.specs.declared.refusal.Fault.the-variants.{BadFlags, NotCarried}
@@ -19,16 +20,12 @@ unfoldable pub saidBound : BoundAnswer → Got Bound
 saidBound (Read b n) = got b n
 saidBound (Refused f p) = bad f p
 
--- "Tokens are eight bytes, signed": the eight bytes as a number, plus 2^63, modulo 2^64. The order of these is the signed order
--- of the tokens (proofs/Tokens.antt), and -2^63, the least token, is 0
-unfoldable pub biased : ℕ → ℕ
-biased x = (x + 2 ^ 63) % 2 ^ 64
-
 -- "exclusive_flag = byte // 0=inclusive, 1=exclusive"; above 1 it is 4
 unfoldable pub flagAt : Reader ℕ
 flagAt s at end = on (fixedAt 1 s at end) (λ x n. pick (ltb 1 x) (bad BadFlags at) (got x n))
 
--- "token = token_size byte*", "token_size = be16"; 7 at the size unless it is 8
+-- "token = token_size byte*", "token_size = be16"; 7 at the size unless it is 8. "Tokens are eight bytes, signed": kept plus 2^63, so
+-- that their order is the signed order (proofs/Tokens.antt), and -2^63, the least token, is 0
 unfoldable pub tokenAt : Reader ℕ
 tokenAt s at end =
     on (lengthAt 2 s at end) (λ z n.

@@ -1,11 +1,12 @@
 // Bounds of token ranges, and their order.
 ghost use mathlib.Core.Path.{_≡_};
 ghost use Rattle.wire.specs.Got.{saidNum};
-ghost use Rattle.sharding.specs.Bounds.{saidBound, biased, flagAt, tokenAt, boundAt, bothInclusive, isRange, isNext};
+ghost use Rattle.sharding.specs.Bounds.{saidBound, flagAt, tokenAt, boundAt, bothInclusive, isRange, isNext};
 use crate::region;
 use wire::number;
 use wire::number::Num;
 use wire::refusal::Fault;
+use wire::times;
 
 // A bound of a token range.
 pub struct Bound {
@@ -19,13 +20,6 @@ pub struct Bound {
 pub enum BoundAnswer {
     Read { bound: Bound, next: usize },
     Refused { fault: Fault, place: usize },
-}
-
-// The eight bytes of a token as a number, plus 2^63, modulo 2^64.
-fn bias(x: u64) -> u64
-    ensures { λ r. ⌜ r ≡ biased x ⌝ }
-{
-    std::num::wrapping_add_u64(x, 9223372036854775808)
 }
 
 // An exclusive flag.
@@ -55,7 +49,7 @@ fn read_token(file: &[u8], at: usize, end: usize) -> Num
             if value == 8 {
                 return match number::read(file, next, end, 8) {
                     Num::Number { value, next } => Num::Number {
-                        value: bias(value),
+                        value: times::biased_of(value),
                         next,
                     },
                     Num::Refused { fault, place } => Num::Refused { fault, place },

@@ -5,6 +5,7 @@ use Prim.Native.Nat.{ℕ}
 use lib.ListN.{length}
 use Rattle.wire.specs.Refusals.{faultNumber, sliceNumber, Outcome, taken, refused}
 use Rattle.wire.specs.declared.refusal.Refusal.{Refusal}
+use Rattle.wire.specs.Times.{biased}
 use Rattle.schema.specs.Records.{schemaOf, saidChecked}
 use Rattle.schema.specs.declared.records.Counts.{Counts}
 use Rattle.schema.specs.declared.records.Checked.{Checked}
@@ -14,12 +15,12 @@ use Rattle.statistics.specs.declared.Table.{Table}
 use Rattle.statistics.specs.declared.Answer.{Answer}
 use Rattle.statistics.specs.declared.Answer.the-variants.{Read, Refused}
 use Rattle.sstable.specs.Words.{words, mapped}
-use Rattle.sstable.specs.Statistics.{signedBits, tableWords, statisticsWords, StatisticsRead, countWords, schemaWords, checkedWords}
+use Rattle.sstable.specs.Statistics.{tableWords, statisticsWords, StatisticsRead, countWords, schemaWords, checkedWords}
 use Rattle.sstable.proofs.Words.{words-taken, words-refused, mapped-taken, mapped-refused}
 
 -- ---- Statistics
 module _ (s d d′ : List ℕ) (r : Answer) (h : Reads s d d′ r) where
-  pub statistics-is : (t : Table) (x : ℕ) → r ≡ Read t → x ≡ signedBits (t .bases .timestamp)
+  pub statistics-is : (t : Table) (x : ℕ) → r ≡ Read t → x ≡ biased (t .bases .timestamp)
       → StatisticsRead s d d′ (0 ∷ 0 ∷ 0 ∷ x ∷ t .bases .local ∷ t .bases .ttl ∷ t .validation .name ∷ t .validation .len ∷ t .validation .chance .bits ∷ t .sizes .clustering ∷ t .sizes .statics ∷ t .sizes .regulars ∷ [])
   unfolding statisticsWords saidAnswer
   statistics-is t x f g = record {

@@ -1,8 +1,9 @@
 -- The calls of the C interface for Statistics.db and schema tables. Assumes nothing.
-use Prim.Native.Nat.{ℕ, _+_, _%_, _^_}
+use Prim.Native.Nat.{ℕ}
 use mathlib.Core.Path.{_≡_}
 use mathlib.Core.List.{List, [], _∷_}
 use lib.ListN.{length}
+use Rattle.wire.specs.Times.{biased}
 use Rattle.schema.specs.Records.{schemaOf, saidChecked}
 use Rattle.schema.specs.declared.records.Counts.{Counts}
 use Rattle.schema.specs.declared.records.Checked.{Checked}
@@ -10,14 +11,10 @@ use Rattle.statistics.specs.Statistics.{statisticsOf, schemaIn}
 use Rattle.statistics.specs.declared.Table.{Table}
 use Rattle.sstable.specs.Words.{words, mapped}
 
--- the 64 bits of the signed number that is kept as x, 2^63 above it
-unfoldable pub signedBits : ℕ → ℕ
-signedBits x = (x + 2 ^ 63) % 2 ^ 64
-
 -- the bases, the partitioner's name, the chance's bits, and how many columns there are
 abbrev pub tableWords : Table → List ℕ
 tableWords t =
-    signedBits (t .bases .timestamp)
+    biased (t .bases .timestamp)
     ∷ t .bases .local
     ∷ t .bases .ttl
     ∷ t .validation .name

@@ -1,15 +1,9 @@
 // Statistics.db, for C.
 ghost use mathlib.Core.Path.{_≡_};
-ghost use Rattle.sstable.specs.Statistics.{signedBits, StatisticsRead};
+ghost use Rattle.sstable.specs.Statistics.{StatisticsRead};
 use statistics::Answer;
 use wire::refusal;
-
-// The 64 bits of the signed number that is kept as x.
-fn signed_bits(x: u64) -> u64
-    ensures { λ r. ⌜ r ≡ signedBits x ⌝ }
-{
-    std::num::wrapping_add_u64(x, 0x8000_0000_0000_0000)
-}
+use wire::times;
 
 // The words of `sstable_statistics_read`.
 fn read_words(file: &[u8], schema: &mut [u8]) -> [u64; 12]
@@ -20,7 +14,7 @@ fn read_words(file: &[u8], schema: &mut [u8]) -> [u64; 12]
             0,
             0,
             0,
-            signed_bits(t.bases.timestamp),
+            times::biased_of(t.bases.timestamp),
             t.bases.local,
             t.bases.ttl,
             t.validation.name as u64,

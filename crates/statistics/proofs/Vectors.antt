@@ -8,6 +8,7 @@ use Rattle.wire.specs.Choose.{pick, bind}
 use Rattle.wire.specs.Got.{Got, got, bad, on}
 use Rattle.wire.specs.BigEndian.{bigEndian, bytesOf}
 use Rattle.wire.specs.Store.{part, shown}
+use Rattle.wire.specs.Times.{biased}
 use Rattle.wire.specs.Varints.{leading, low, varintAt}
 use Rattle.wire.specs.declared.refusal.Fault.{Fault}
 use Rattle.wire.specs.declared.refusal.Fault.the-variants.{PastEnd, LeftOver, OutOfRange, NotCarried, TooMany, Repeated}
@@ -15,7 +16,7 @@ use Rattle.typetable.specs.Text.{same, among}
 use Rattle.typetable.specs.Table.{table, lineIn, nth, lineOf}
 use Rattle.types.specs.Strings.{blank, alphanumeric, ofName, ofParameters, past, upTo, named, counted, inside, opened, tail, typed, behind, plain, lineWith, stringWith, held, typeOf, stringAt, typeAt}
 use Rattle.schema.specs.Records.{mostOf}
-use Rattle.statistics.specs.Bases.{biased, timestampAt, localOf, localAt, ttlAt, basesAt}
+use Rattle.statistics.specs.Bases.{timestampAt, localOf, localAt, ttlAt, basesAt}
 use Rattle.statistics.specs.Header.{countAt, isNamed, nameAt, typedAt, namedAt, columnAt, columnsAt, groupAt, groupsAt, headerAt, headOf, placeOf, tailOf, recordOf, recordsOf, Header}
 
 abbrev T : List ℕ → List ℕ

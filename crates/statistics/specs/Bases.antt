@@ -4,13 +4,10 @@ use Prim.Native.Nat.{ℕ, _+_, _%_, _^_}
 use lib.Dec.{ltb}
 use Rattle.wire.specs.Choose.{pick, bind}
 use Rattle.wire.specs.Got.{Got, got, bad, on, Reader, _>>=_, ret}
+use Rattle.wire.specs.Times.{biased}
 use Rattle.wire.specs.Varints.{varintAt}
 use Rattle.wire.specs.declared.refusal.Fault.the-variants.{OutOfRange}
 use Rattle.wire.specs.declared.times.Bases.{Bases}
-
--- the signed number of the 64 bits x, plus 2^63
-unfoldable pub biased : ℕ → ℕ
-biased x = (x + 2 ^ 63) % 2 ^ 64
 
 unfoldable pub timestampAt : Reader ℕ
 timestampAt s at end = on (varintAt s at end) (λ v n. got (biased ((1442880000000000 + v) % 2 ^ 64)) n)

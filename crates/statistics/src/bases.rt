@@ -5,6 +5,7 @@ ghost use Rattle.statistics.specs.Bases.{timestampAt, localOf, localAt, 
 ghost use Rattle.statistics.specs.Said.{saidTimes};
 use wire::number::Num;
 use wire::refusal::Fault;
+use wire::times;
 use wire::times::Bases;
 use wire::varint;
 
@@ -22,7 +23,7 @@ fn timestamp(s: &[u8], at: usize, end: usize) -> Num
         Num::Number { value, next } => {
             let sum = std::num::wrapping_add_u64(1442880000000000, value);
             Num::Number {
-                value: std::num::wrapping_add_u64(sum, 0x8000_0000_0000_0000),
+                value: times::biased_of(sum),
                 next,
             }
         }

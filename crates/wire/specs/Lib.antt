@@ -4,3 +4,4 @@ pub mod Got
 pub mod Store
 pub mod BigEndian
 pub mod Varints
+pub mod Times

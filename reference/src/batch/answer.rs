@@ -35,17 +35,7 @@ fn try_answer(call: &Call, full: bool) -> Result<String, Refusal> {
             Ok(varint_line(value, next - at))
         }
         Call::VarintLen { value } => Ok(length_line(varint::len(value))),
-        Call::Schema { schema, statistics } => {
-            let checked = check_schema(schema, statistics)?;
-            let roles = [checked.clustering(), checked.statics(), checked.regulars()];
-            Ok(schema_line(roles.map(|columns| columns.len() as u64)))
-        }
-        Call::Same { a, b } => {
-            let of = |Named { schema, statistics }| check_schema(schema, Some(statistics));
-            let left = of(a).map_err(|r| r.on(Side::A))?;
-            let right = of(b).map_err(|r| r.on(Side::B))?;
-            Ok(same_line(left.equals(a.statistics, &right, b.statistics)))
-        }
+        Call::Schema { .. } | Call::Same { .. } => schemas(call),
         _ => stored(call, full),
     }
 }
@@ -102,6 +92,26 @@ fn merge_files(a: Files, b: Files, output: usize, full: bool) -> Result<String, 
     let stats_b = read_statistics(b.statistics).map_err(|r| r.on(Side::B))?;
     let (out, bases) = merge(a.table(&stats_a), b.table(&stats_b), output)?;
     Ok(merge_line(&out, bases, full))
+}
+
+/// The check of schema records, and whether two schemas are equal.
+fn schemas(call: &Call) -> Result<String, Refusal> {
+    match *call {
+        Call::Schema { schema, statistics } => {
+            let checked = check_schema(schema, statistics)?;
+            let (clustering, statics) = (checked.clustering(), checked.statics());
+            let roles = [clustering, statics, checked.regulars()];
+            Ok(schema_line(roles.map(|columns| columns.len() as u64)))
+        }
+        Call::Same { a, b } => {
+            let of = |Named { schema, statistics }| check_schema(schema, Some(statistics));
+            let left = of(a).map_err(|r| r.on(Side::A))?;
+            let right = of(b).map_err(|r| r.on(Side::B))?;
+            let same = left.equals(a.statistics, &right, b.statistics);
+            Ok(same_line(same))
+        }
+        _ => unreachable!("no schema"),
+    }
 }
 
 /// Schema records alone: 1, then 10; the Statistics beside them have no limit.

@@ -29,8 +29,10 @@ impl Kind for Statistics {
 
     fn generate(&self, rng: &mut Rng) -> Case {
         let mut bytes = file(rng);
-        if rng.one_in(4) {
-            damage(rng, &mut bytes);
+        match rng.below(60) {
+            0..=11 => damage(rng, &mut bytes),
+            12 => cut_in_contents(rng, &mut bytes),
+            _ => {}
         }
         let mut blobs = vec![bytes];
         if !rng.one_in(3) {
@@ -208,7 +210,7 @@ impl Maker<'_> {
     }
 
     fn type_string(&mut self, place: Use) {
-        let text = match self.rng.below(60) {
+        let text = match self.rng.below(50) {
             0 => type_strings::any(self.rng),
             _ => type_strings::sound(self.rng, place).into_bytes(),
         };
@@ -385,6 +387,17 @@ fn change_entries(rng: &mut Rng, entries: &mut Vec<(u32, Vec<u8>)>) {
             (entries[i].0, entries[j].0) = (entries[j].0, entries[i].0);
         }
         _ => entries[i].0 = *rng.pick(&[0, 1, 2, 3, 4, 5, 0x100, 1 << 31, u32::MAX]),
+    }
+}
+
+/// The file ends among its pairs, an offset about that end and the contents'.
+fn cut_in_contents(rng: &mut Rng, bytes: &mut Vec<u8>) {
+    let len = 8 + rng.index(29.min(bytes.len() - 7));
+    bytes.truncate(len);
+    let at = 8 * (1 + rng.index(len / 8));
+    if let Some(offset) = bytes.get_mut(at..at + 4) {
+        let value = (len + rng.index(20)) as u32 - 3;
+        offset.copy_from_slice(&value.to_be_bytes());
     }
 }
 

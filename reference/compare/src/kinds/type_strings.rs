@@ -126,11 +126,14 @@ const PIECES: [&str; 30] = [
 
 /// A type string that may be carried or not.
 pub fn any(rng: &mut Rng) -> Vec<u8> {
-    match rng.below(5) {
+    match rng.below(6) {
         0 | 1 => nested(rng).into_bytes(),
-        2 => {
+        2 | 3 => {
             let mut text = sound(rng, Use::Key).into_bytes();
-            damage(rng, &mut text);
+            match rng.below(2) {
+                0 => damage(rng, &mut text),
+                _ => text.insert(rng.index(text.len() + 1), *rng.pick(b"\r\t\n ().,!-")),
+            }
             text
         }
         _ => pieces(rng).into_bytes(),

@@ -5,33 +5,23 @@ use Rattle.cell.specs.Cells.{cellAt}
 use borrow.Author.Needs.{needs}
 use Rattle.cell.proofs.cells.read_cell.Statement.{statement}
 use Rattle.cell.proofs.cells.read_cell.Tie as tie
-use Rattle.cell.proofs.cells.read_cell.Reads as reads
-use Rattle.cell.proofs.cells.read_cell.Lts as lts
-use Rattle.cell.proofs.cells.read_flags.Reads as read-flags-reads
-use Rattle.cell.proofs.cells.read_timed.Reads as read-timed-reads
 
--- src/cells.rt:201:11
 read-flags-requires : tie.Need-read-flags-requires
 read-flags-requires c κs = search needs
 
--- src/cells.rt:202:23
 enum-known-value : tie.Need-enum-known-value
 enum-known-value c = search needs
 
--- src/cells.rt:202:40
 read-timed-requires : tie.Need-read-timed-requires
 read-timed-requires c κs = search needs
 
--- src/cells.rt:203:24
 enum-known-fault : tie.Need-enum-known-fault
 enum-known-fault c = search needs
 
--- src/cells.rt:198:1
 returns : tie.Need-returns
 unfolding cellAt
 returns c = search (reading, answers, cases) depth 12
 
--- src/cells.rt:198:1
 returns-2 : tie.Need-returns-2
 unfolding cellAt
 returns-2 c = search (reading, answers, cases) depth 12

@@ -5,48 +5,34 @@ use Rattle.cell.specs.Cells.{contentAt}
 use borrow.Author.Needs.{needs}
 use Rattle.cell.proofs.cells.read_content.Statement.{statement}
 use Rattle.cell.proofs.cells.read_content.Tie as tie
-use Rattle.cell.proofs.cells.read_content.Reads as reads
-use Rattle.cell.proofs.cells.read_content.Lts as lts
-use Rattle.cell.proofs.cells.read_expiring.Reads as read-expiring-reads
-use Rattle.cell.proofs.cells.read_last.Reads as read-last-reads
-use Rattle.cell.proofs.fields.read_local.Reads as read-local-reads
 
--- src/cells.rt:160:15
 read-local-requires : tie.Need-read-local-requires
 read-local-requires c κs = search needs
 
--- src/cells.rt:161:34
 enum-known-local : tie.Need-enum-known-local
 enum-known-local c = search needs
 
--- src/cells.rt:162:17
 returns : tie.Need-returns
 unfolding contentAt
 returns c = search (reading, answers, cases) depth 12
 
--- src/cells.rt:173:28
 enum-known-fault : tie.Need-enum-known-fault
 enum-known-fault c = search needs
 
--- src/cells.rt:174:17
 returns-2 : tie.Need-returns-2
 unfolding contentAt
 returns-2 c = search (reading, answers, cases) depth 12
 
--- src/cells.rt:179:9
 read-expiring-requires : tie.Need-read-expiring-requires
 read-expiring-requires c κs = search needs
 
--- src/cells.rt:179:9
 returns-3 : tie.Need-returns-3
 unfolding contentAt
 returns-3 c = search (reading, answers, cases) depth 12
 
--- src/cells.rt:181:5
 read-last-requires : tie.Need-read-last-requires
 read-last-requires c κs = search needs
 
--- src/cells.rt:147:1
 returns-4 : tie.Need-returns-4
 unfolding contentAt
 returns-4 c = search (reading, answers, cases) depth 12

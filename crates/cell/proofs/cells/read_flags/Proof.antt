@@ -5,38 +5,27 @@ use Rattle.cell.specs.Cells.{flagsAt}
 use borrow.Author.Needs.{needs}
 use Rattle.cell.proofs.cells.read_flags.Statement.{statement}
 use Rattle.cell.proofs.cells.read_flags.Tie as tie
-use Rattle.cell.proofs.cells.read_flags.Reads as reads
-use Rattle.cell.proofs.cells.read_flags.Lts as lts
-use Rattle.cell.proofs.cells.bad_flags.Reads as bad-flags-reads
-use Rattle.cell.proofs.fields.read_byte.Reads as read-byte-reads
 
--- src/cells.rt:63:11
 read-byte-requires : tie.Need-read-byte-requires
 read-byte-requires c κs = search needs
 
--- src/cells.rt:64:23
 enum-known-value : tie.Need-enum-known-value
 enum-known-value c = search needs
 
--- src/cells.rt:65:16
 bad-flags-requires : tie.Need-bad-flags-requires
 bad-flags-requires c κs = search needs
 
--- src/cells.rt:66:17
 returns : tie.Need-returns
 unfolding flagsAt
 returns c = search (reading, answers, cases) depth 12
 
--- src/cells.rt:73:24
 enum-known-fault : tie.Need-enum-known-fault
 enum-known-fault c = search needs
 
--- src/cells.rt:60:1
 returns-2 : tie.Need-returns-2
 unfolding flagsAt
 returns-2 c = search (reading, answers, cases) depth 12
 
--- src/cells.rt:60:1
 returns-3 : tie.Need-returns-3
 unfolding flagsAt
 returns-3 c = search (reading, answers, cases) depth 12

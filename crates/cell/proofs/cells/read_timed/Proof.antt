@@ -5,42 +5,30 @@ use Rattle.cell.specs.Cells.{timedAt}
 use borrow.Author.Needs.{needs}
 use Rattle.cell.proofs.cells.read_timed.Statement.{statement}
 use Rattle.cell.proofs.cells.read_timed.Tie as tie
-use Rattle.cell.proofs.cells.read_timed.Reads as reads
-use Rattle.cell.proofs.cells.read_timed.Lts as lts
-use Rattle.cell.proofs.cells.read_content.Reads as read-content-reads
-use Rattle.cell.proofs.fields.read_timestamp.Reads as read-timestamp-reads
 
--- src/cells.rt:189:9
 read-content-requires : tie.Need-read-content-requires
 read-content-requires c κs = search needs
 
--- src/cells.rt:189:9
 returns : tie.Need-returns
 unfolding timedAt
 returns c = search (reading, answers, cases) depth 12
 
--- src/cells.rt:191:11
 read-timestamp-requires : tie.Need-read-timestamp-requires
 read-timestamp-requires c κs = search needs
 
--- src/cells.rt:192:23
 enum-known-value : tie.Need-enum-known-value
 enum-known-value c = search needs
 
--- src/cells.rt:192:40
 read-content-requires-2 : tie.Need-read-content-requires-2
 read-content-requires-2 c κs = search needs
 
--- src/cells.rt:193:24
 enum-known-fault : tie.Need-enum-known-fault
 enum-known-fault c = search needs
 
--- src/cells.rt:185:1
 returns-2 : tie.Need-returns-2
 unfolding timedAt
 returns-2 c = search (reading, answers, cases) depth 12
 
--- src/cells.rt:185:1
 returns-3 : tie.Need-returns-3
 unfolding timedAt
 returns-3 c = search (reading, answers, cases) depth 12

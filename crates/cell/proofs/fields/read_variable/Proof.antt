@@ -6,46 +6,34 @@ use Rattle.wire.proofs.Varints.{varint-within}
 use borrow.Author.Needs.{needs}
 use Rattle.cell.proofs.fields.read_variable.Statement.{statement}
 use Rattle.cell.proofs.fields.read_variable.Tie as tie
-use Rattle.cell.proofs.fields.read_variable.Reads as reads
-use Rattle.cell.proofs.fields.read_variable.Lts as lts
-use Rattle.wire.proofs.varint.read.Reads as read-reads
 
--- src/fields.rt:143:11
 read-requires : tie.Need-read-requires
 read-requires c κs = search needs
 
--- src/fields.rt:144:23
 enum-known-value : tie.Need-enum-known-value
 enum-known-value c = search needs
 
--- src/fields.rt:146:17
 returns : tie.Need-returns
 unfolding variableAt
 returns c = search (reading, answers, cases) depth 12
 
--- src/fields.rt:151:18
 sub-if2 : tie.Need-sub-if2
 sub-if2 c = search (varint-within, needs)
 
--- src/fields.rt:152:17
 returns-2 : tie.Need-returns-2
 unfolding variableAt
 returns-2 c = search (reading, answers, cases) depth 12
 
--- src/fields.rt:160:23
 add-t13 : tie.Need-add-t13
 add-t13 c = search needs
 
--- src/fields.rt:163:24
 enum-known-fault : tie.Need-enum-known-fault
 enum-known-fault c = search needs
 
--- src/fields.rt:140:1
 returns-3 : tie.Need-returns-3
 unfolding variableAt
 returns-3 c = search (reading, answers, cases) depth 12
 
--- src/fields.rt:140:1
 returns-4 : tie.Need-returns-4
 unfolding variableAt
 returns-4 c = search (reading, answers, cases) depth 12

@@ -2,8 +2,6 @@ use Rattle.clustering.proofs.Loops.{Heading, heading}
 use borrow.Author.Needs.{needs}
 use Rattle.clustering.proofs.prefixes.bad_header.Statement.{statement}
 use Rattle.clustering.proofs.prefixes.bad_header.Tie as tie
-use Rattle.clustering.proofs.prefixes.bad_header.Reads as reads
-use Rattle.clustering.proofs.prefixes.bad_header.Lts as lts
 
 abbrev Inv-loop : tie.InvT-loop
 Inv-loop k header left₀ h₀ left h = Heading k header left h
@@ -11,27 +9,21 @@ Inv-loop k header left₀ h₀ left h = Heading k header left h
 abbrev μ-loop : tie.MeasureT-loop
 μ-loop k header left₀ h₀ left h = left
 
--- src/prefixes.rt:39:5
 loop-holds : tie.Need-loop-holds Inv-loop μ-loop
 loop-holds c = search (heading, needs)
 
--- src/prefixes.rt:41:13
 returns : tie.Need-returns Inv-loop μ-loop
 returns c = search (heading, needs)
 
--- src/prefixes.rt:44:9
 sub-left : tie.Need-sub-left Inv-loop μ-loop
 sub-left c = search (heading, needs)
 
--- src/prefixes.rt:39:5
 loop-less : tie.Need-loop-less Inv-loop μ-loop
 loop-less c = search (heading, needs)
 
--- src/prefixes.rt:39:5
 loop-again : tie.Need-loop-again Inv-loop μ-loop
 loop-again c = search (heading, needs)
 
--- src/prefixes.rt:34:1
 returns-2 : tie.Need-returns-2 Inv-loop μ-loop
 returns-2 c = search (heading, needs)
 

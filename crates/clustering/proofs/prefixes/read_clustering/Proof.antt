@@ -4,20 +4,14 @@ use Rattle.clustering.specs.Prefixes.{clusteringAt}
 use borrow.Author.Needs.{needs}
 use Rattle.clustering.proofs.prefixes.read_clustering.Statement.{statement}
 use Rattle.clustering.proofs.prefixes.read_clustering.Tie as tie
-use Rattle.clustering.proofs.prefixes.read_clustering.Reads as reads
-use Rattle.clustering.proofs.prefixes.read_clustering.Lts as lts
-use Rattle.cell.proofs.fields.read_value.Reads as read-value-reads
 
--- src/prefixes.rt:75:9
 returns : tie.Need-returns
 unfolding clusteringAt
 returns c = search (fields, cases) depth 12
 
--- src/prefixes.rt:80:5
 read-value-requires : tie.Need-read-value-requires
 read-value-requires c κs = search needs
 
--- src/prefixes.rt:71:1
 returns-2 : tie.Need-returns-2
 unfolding clusteringAt
 returns-2 c = search (fields, cases) depth 12

@@ -3,9 +3,6 @@ use Rattle.clustering.specs.Prefixes.{skipped, valuesAt, widthsAt}
 use borrow.Author.Needs.{needs}
 use Rattle.clustering.proofs.prefixes.skip_values.Statement.{statement}
 use Rattle.clustering.proofs.prefixes.skip_values.Tie as tie
-use Rattle.clustering.proofs.prefixes.skip_values.Reads as reads
-use Rattle.clustering.proofs.prefixes.skip_values.Lts as lts
-use Rattle.clustering.proofs.prefixes.read_clustering.Reads as read-clustering-reads
 
 abbrev Inv-loop : tie.InvT-loop
 Inv-loop s at end schema first count header left₀ column₀ h₀ p₀ left column h p = Skipping (skipped (valuesAt (widthsAt schema first count) header s at end)) schema s end column left h p
@@ -13,51 +10,39 @@ Inv-loop s at end schema first count header left₀ column₀ h₀ p₀ left col
 abbrev μ-loop : tie.MeasureT-loop
 μ-loop s at end schema first count header left₀ column₀ h₀ p₀ left column h p = left
 
--- src/prefixes.rt:101:5
 loop-holds : tie.Need-loop-holds Inv-loop μ-loop
 loop-holds c = search (skipping, needs)
 
--- src/prefixes.rt:102:28
 add-width : tie.Need-add-width Inv-loop μ-loop
 add-width c = search (skipping, needs)
 
--- src/prefixes.rt:102:21
 shared-slice-read-width : tie.Need-shared-slice-read-width Inv-loop μ-loop
 shared-slice-read-width c = search (skipping, needs)
 
--- src/prefixes.rt:103:15
 read-clustering-requires : tie.Need-read-clustering-requires Inv-loop μ-loop
 read-clustering-requires c κs = search (skipping, needs)
 
--- src/prefixes.rt:104:36
 enum-known-next : tie.Need-enum-known-next Inv-loop μ-loop
 enum-known-next c = search (skipping, needs)
 
--- src/prefixes.rt:107:17
 add-column : tie.Need-add-column Inv-loop μ-loop
 add-column c = search (skipping, needs)
 
--- src/prefixes.rt:108:17
 sub-left : tie.Need-sub-left Inv-loop μ-loop
 sub-left c = search (skipping, needs)
 
--- src/prefixes.rt:101:5
 loop-less : tie.Need-loop-less Inv-loop μ-loop
 loop-less c = search (skipping, needs)
 
--- src/prefixes.rt:101:5
 loop-again : tie.Need-loop-again Inv-loop μ-loop
 loop-again c = search (skipping, needs)
 
--- src/prefixes.rt:110:29
 enum-known-fault : tie.Need-enum-known-fault Inv-loop μ-loop
 enum-known-fault c = search (skipping, needs)
 
--- src/prefixes.rt:110:47
 returns : tie.Need-returns Inv-loop μ-loop
 returns c = search (skipping, needs)
 
--- src/prefixes.rt:85:1
 returns-2 : tie.Need-returns-2 Inv-loop μ-loop
 returns-2 c = search (skipping, needs)
 

@@ -5,58 +5,43 @@ use Rattle.clustering.specs.Sizes.{sizesAt}
 use borrow.Author.Needs.{needs}
 use Rattle.clustering.proofs.sizes.read_sizes.Statement.{statement}
 use Rattle.clustering.proofs.sizes.read_sizes.Tie as tie
-use Rattle.clustering.proofs.sizes.read_sizes.Reads as reads
-use Rattle.clustering.proofs.sizes.read_sizes.Lts as lts
-use Rattle.wire.proofs.varint.read.Reads as read-reads
 
--- src/sizes.rt:13:11
 read-requires : tie.Need-read-requires
 read-requires c κs = search needs
 
--- src/sizes.rt:14:23
 enum-known-value : tie.Need-enum-known-value
 enum-known-value c = search needs
 
--- src/sizes.rt:15:18
 sub-if1 : tie.Need-sub-if1
 sub-if1 c = search (varint-within, needs)
 
--- src/sizes.rt:16:17
 returns : tie.Need-returns
 unfolding sizesAt
 returns c = search (reading, cases) depth 12
 
--- src/sizes.rt:21:24
 add-stop : tie.Need-add-stop
 add-stop c = search needs
 
--- src/sizes.rt:22:19
 read-requires-2 : tie.Need-read-requires-2
 read-requires-2 c κs = search needs
 
--- src/sizes.rt:25:27
 enum-known-after : tie.Need-enum-known-after
 enum-known-after c = search needs
 
--- src/sizes.rt:30:32
 enum-known-fault : tie.Need-enum-known-fault
 enum-known-fault c = search needs
 
--- src/sizes.rt:33:24
 enum-known-fault-2 : tie.Need-enum-known-fault-2
 enum-known-fault-2 c = search needs
 
--- src/sizes.rt:10:1
 returns-2 : tie.Need-returns-2
 unfolding sizesAt
 returns-2 c = search (reading, cases) depth 12
 
--- src/sizes.rt:10:1
 returns-3 : tie.Need-returns-3
 unfolding sizesAt
 returns-3 c = search (reading, cases) depth 12
 
--- src/sizes.rt:10:1
 returns-4 : tie.Need-returns-4
 unfolding sizesAt
 returns-4 c = search (reading, cases) depth 12

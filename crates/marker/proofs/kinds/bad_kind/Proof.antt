@@ -3,20 +3,15 @@ use Rattle.wire.proofs.Choose.{cases}
 use Rattle.marker.specs.Kinds.{badKind}
 use Rattle.marker.proofs.kinds.bad_kind.Statement.{statement}
 use Rattle.marker.proofs.kinds.bad_kind.Tie as tie
-use Rattle.marker.proofs.kinds.bad_kind.Reads as reads
-use Rattle.marker.proofs.kinds.bad_kind.Lts as lts
 
--- src/kinds.rt:15:9
 returns : tie.Need-returns
 unfolding badKind
 returns c = search cases depth 12
 
--- src/kinds.rt:18:9
 returns-2 : tie.Need-returns-2
 unfolding badKind
 returns-2 c = search cases depth 12
 
--- src/kinds.rt:11:1
 returns-3 : tie.Need-returns-3
 unfolding badKind
 returns-3 c = search cases depth 12

@@ -3,15 +3,11 @@ use Rattle.wire.proofs.Choose.{cases}
 use Rattle.marker.specs.Kinds.{isBoundary}
 use Rattle.marker.proofs.kinds.is_boundary.Statement.{statement}
 use Rattle.marker.proofs.kinds.is_boundary.Tie as tie
-use Rattle.marker.proofs.kinds.is_boundary.Reads as reads
-use Rattle.marker.proofs.kinds.is_boundary.Lts as lts
 
--- src/kinds.rt:38:9
 returns : tie.Need-returns
 unfolding isBoundary
 returns c = search cases depth 12
 
--- src/kinds.rt:34:1
 returns-2 : tie.Need-returns-2
 unfolding isBoundary
 returns-2 c = search cases depth 12

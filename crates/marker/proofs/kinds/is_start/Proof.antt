@@ -3,15 +3,11 @@ use Rattle.wire.proofs.Choose.{cases}
 use Rattle.marker.specs.Kinds.{isStart}
 use Rattle.marker.proofs.kinds.is_start.Statement.{statement}
 use Rattle.marker.proofs.kinds.is_start.Tie as tie
-use Rattle.marker.proofs.kinds.is_start.Reads as reads
-use Rattle.marker.proofs.kinds.is_start.Lts as lts
 
--- src/kinds.rt:28:9
 returns : tie.Need-returns
 unfolding isStart
 returns c = search cases depth 12
 
--- src/kinds.rt:24:1
 returns-2 : tie.Need-returns-2
 unfolding isStart
 returns-2 c = search cases depth 12

@@ -4,33 +4,24 @@ use Rattle.marker.specs.Kinds.{countAt}
 use borrow.Author.Needs.{needs}
 use Rattle.marker.proofs.kinds.read_count.Statement.{statement}
 use Rattle.marker.proofs.kinds.read_count.Tie as tie
-use Rattle.marker.proofs.kinds.read_count.Reads as reads
-use Rattle.marker.proofs.kinds.read_count.Lts as lts
-use Rattle.wire.proofs.number.read.Reads as read-reads
 
--- src/kinds.rt:99:11
 read-requires : tie.Need-read-requires
 read-requires c κs = search needs
 
--- src/kinds.rt:100:23
 enum-known-value : tie.Need-enum-known-value
 enum-known-value c = search needs
 
--- src/kinds.rt:102:17
 returns : tie.Need-returns
 unfolding countAt
 returns c = search (reading, cases) depth 12
 
--- src/kinds.rt:109:24
 enum-known-fault : tie.Need-enum-known-fault
 enum-known-fault c = search needs
 
--- src/kinds.rt:96:1
 returns-2 : tie.Need-returns-2
 unfolding countAt
 returns-2 c = search (reading, cases) depth 12
 
--- src/kinds.rt:96:1
 returns-3 : tie.Need-returns-3
 unfolding countAt
 returns-3 c = search (reading, cases) depth 12

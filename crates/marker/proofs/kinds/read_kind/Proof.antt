@@ -5,48 +5,34 @@ use Rattle.marker.specs.Kinds.{kindAt}
 use borrow.Author.Needs.{needs}
 use Rattle.marker.proofs.kinds.read_kind.Statement.{statement}
 use Rattle.marker.proofs.kinds.read_kind.Tie as tie
-use Rattle.marker.proofs.kinds.read_kind.Reads as reads
-use Rattle.marker.proofs.kinds.read_kind.Lts as lts
-use Rattle.cell.proofs.fields.read_byte.Reads as read-byte-reads
-use Rattle.marker.proofs.kinds.bad_kind.Reads as bad-kind-reads
-use Rattle.marker.proofs.kinds.out_of_turn.Reads as out-of-turn-reads
 
--- src/kinds.rt:75:11
 read-byte-requires : tie.Need-read-byte-requires
 read-byte-requires c κs = search needs
 
--- src/kinds.rt:76:23
 enum-known-value : tie.Need-enum-known-value
 enum-known-value c = search needs
 
--- src/kinds.rt:77:16
 bad-kind-requires : tie.Need-bad-kind-requires
 bad-kind-requires c κs = search needs
 
--- src/kinds.rt:78:17
 returns : tie.Need-returns
 unfolding kindAt
 returns c = search (reading, answers, cases) depth 12
 
--- src/kinds.rt:83:16
 out-of-turn-requires : tie.Need-out-of-turn-requires
 out-of-turn-requires c κs = search needs
 
--- src/kinds.rt:84:17
 returns-2 : tie.Need-returns-2
 unfolding kindAt
 returns-2 c = search (reading, answers, cases) depth 12
 
--- src/kinds.rt:91:24
 enum-known-fault : tie.Need-enum-known-fault
 enum-known-fault c = search needs
 
--- src/kinds.rt:72:1
 returns-3 : tie.Need-returns-3
 unfolding kindAt
 returns-3 c = search (reading, answers, cases) depth 12
 
--- src/kinds.rt:72:1
 returns-4 : tie.Need-returns-4
 unfolding kindAt
 returns-4 c = search (reading, answers, cases) depth 12

@@ -4,33 +4,24 @@ use Rattle.marker.specs.Kinds.{markerFlagsAt}
 use borrow.Author.Needs.{needs}
 use Rattle.marker.proofs.kinds.read_marker_flags.Statement.{statement}
 use Rattle.marker.proofs.kinds.read_marker_flags.Tie as tie
-use Rattle.marker.proofs.kinds.read_marker_flags.Reads as reads
-use Rattle.marker.proofs.kinds.read_marker_flags.Lts as lts
-use Rattle.cell.proofs.fields.read_byte.Reads as read-byte-reads
 
--- src/kinds.rt:57:11
 read-byte-requires : tie.Need-read-byte-requires
 read-byte-requires c κs = search needs
 
--- src/kinds.rt:58:23
 enum-known-value : tie.Need-enum-known-value
 enum-known-value c = search needs
 
--- src/kinds.rt:60:17
 returns : tie.Need-returns
 unfolding markerFlagsAt
 returns c = search (reading, cases) depth 12
 
--- src/kinds.rt:67:24
 enum-known-fault : tie.Need-enum-known-fault
 enum-known-fault c = search needs
 
--- src/kinds.rt:54:1
 returns-2 : tie.Need-returns-2
 unfolding markerFlagsAt
 returns-2 c = search (reading, cases) depth 12
 
--- src/kinds.rt:54:1
 returns-3 : tie.Need-returns-3
 unfolding markerFlagsAt
 returns-3 c = search (reading, cases) depth 12

@@ -3,15 +3,11 @@ use Rattle.wire.proofs.Choose.{cases}
 use Rattle.marker.specs.Markers.{sameDeletion}
 use Rattle.marker.proofs.markers.is_same_deletion.Statement.{statement}
 use Rattle.marker.proofs.markers.is_same_deletion.Tie as tie
-use Rattle.marker.proofs.markers.is_same_deletion.Reads as reads
-use Rattle.marker.proofs.markers.is_same_deletion.Lts as lts
 
--- src/markers.rt:52:9
 returns : tie.Need-returns
 unfolding sameDeletion
 returns c = search cases depth 12
 
--- src/markers.rt:48:1
 returns-2 : tie.Need-returns-2
 unfolding sameDeletion
 returns-2 c = search cases depth 12

@@ -7,64 +7,46 @@ use Rattle.marker.proofs.Counts.{count-of, prefix-of, count-fits}
 use borrow.Author.Needs.{needs}
 use Rattle.marker.proofs.markers.read_bound.Statement.{statement}
 use Rattle.marker.proofs.markers.read_bound.Tie as tie
-use Rattle.marker.proofs.markers.read_bound.Reads as reads
-use Rattle.marker.proofs.markers.read_bound.Lts as lts
-use Rattle.clustering.proofs.prefixes.read_prefix.Reads as read-prefix-reads
-use Rattle.marker.proofs.kinds.read_count.Reads as read-count-reads
-use Rattle.marker.proofs.markers.read_body.Reads as read-body-reads
 
--- src/markers.rt:150:11
 read-count-requires : tie.Need-read-count-requires
 read-count-requires c κs = search needs
 
--- src/markers.rt:151:30
 enum-known-count : tie.Need-enum-known-count
 enum-known-count c = search needs
 
--- src/markers.rt:151:53
 read-prefix-requires : tie.Need-read-prefix-requires
 read-prefix-requires c κs = search (count-fits, needs)
 
--- src/markers.rt:160:17
 enum-known-prefix : tie.Need-enum-known-prefix
 enum-known-prefix c = search needs
 
--- src/markers.rt:162:24
 read-body-requires : tie.Need-read-body-requires
 read-body-requires c κs = search needs
 
--- src/markers.rt:164:21
 enum-known-deletions : tie.Need-enum-known-deletions
 enum-known-deletions c = search needs
 
--- src/markers.rt:176:36
 enum-known-fault : tie.Need-enum-known-fault
 enum-known-fault c = search needs
 
--- src/markers.rt:178:33
 enum-known-fault-2 : tie.Need-enum-known-fault-2
 enum-known-fault-2 c = search needs
 
--- src/markers.rt:180:24
 enum-known-fault-3 : tie.Need-enum-known-fault-3
 enum-known-fault-3 c = search needs
 
--- src/markers.rt:136:1
 returns : tie.Need-returns
 unfolding boundAt
 returns c = search (reading, answers, prefixes, cases, count-of, prefix-of) depth 12
 
--- src/markers.rt:136:1
 returns-2 : tie.Need-returns-2
 unfolding boundAt
 returns-2 c = search (reading, answers, prefixes, cases, count-of, prefix-of) depth 12
 
--- src/markers.rt:136:1
 returns-3 : tie.Need-returns-3
 unfolding boundAt
 returns-3 c = search (reading, answers, prefixes, cases, count-of, prefix-of) depth 12
 
--- src/markers.rt:136:1
 returns-4 : tie.Need-returns-4
 unfolding boundAt
 returns-4 c = search (reading, answers, prefixes, cases, count-of, prefix-of) depth 12

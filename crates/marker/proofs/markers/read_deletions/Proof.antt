@@ -5,51 +5,37 @@ use Rattle.marker.specs.Markers.{deletionsAt}
 use borrow.Author.Needs.{needs}
 use Rattle.marker.proofs.markers.read_deletions.Statement.{statement}
 use Rattle.marker.proofs.markers.read_deletions.Tie as tie
-use Rattle.marker.proofs.markers.read_deletions.Reads as reads
-use Rattle.marker.proofs.markers.read_deletions.Lts as lts
-use Rattle.marker.proofs.markers.read_first.Reads as read-first-reads
-use Rattle.marker.proofs.markers.read_second.Reads as read-second-reads
 
--- src/markers.rt:99:11
 read-first-requires : tie.Need-read-first-requires
 read-first-requires c κs = search needs
 
--- src/markers.rt:101:23
 enum-known-first : tie.Need-enum-known-first
 enum-known-first c = search needs
 
--- src/markers.rt:103:20
 read-second-requires : tie.Need-read-second-requires
 read-second-requires c κs = search needs
 
--- src/markers.rt:105:27
 enum-known-second : tie.Need-enum-known-second
 enum-known-second c = search needs
 
--- src/markers.rt:109:21
 returns : tie.Need-returns
 unfolding deletionsAt
 returns c = search (answers, fields, cases) depth 12
 
--- src/markers.rt:119:32
 enum-known-fault : tie.Need-enum-known-fault
 enum-known-fault c = search needs
 
--- src/markers.rt:121:28
 enum-known-fault-2 : tie.Need-enum-known-fault-2
 enum-known-fault-2 c = search needs
 
--- src/markers.rt:96:1
 returns-2 : tie.Need-returns-2
 unfolding deletionsAt
 returns-2 c = search (answers, fields, cases) depth 12
 
--- src/markers.rt:96:1
 returns-3 : tie.Need-returns-3
 unfolding deletionsAt
 returns-3 c = search (answers, fields, cases) depth 12
 
--- src/markers.rt:96:1
 returns-4 : tie.Need-returns-4
 unfolding deletionsAt
 returns-4 c = search (answers, fields, cases) depth 12

@@ -4,48 +4,34 @@ use Rattle.marker.specs.Markers.{firstAt}
 use borrow.Author.Needs.{needs}
 use Rattle.marker.proofs.markers.read_first.Statement.{statement}
 use Rattle.marker.proofs.markers.read_first.Tie as tie
-use Rattle.marker.proofs.markers.read_first.Reads as reads
-use Rattle.marker.proofs.markers.read_first.Lts as lts
-use Rattle.cell.proofs.fields.read_deletion.Reads as read-deletion-reads
-use Rattle.marker.proofs.kinds.is_start.Reads as is-start-reads
-use Rattle.marker.proofs.markers.is_same_deletion.Reads as is-same-deletion-reads
 
--- src/markers.rt:61:11
 read-deletion-requires : tie.Need-read-deletion-requires
 read-deletion-requires c κs = search needs
 
--- src/markers.rt:62:23
 enum-known-deletion : tie.Need-enum-known-deletion
 enum-known-deletion c = search needs
 
--- src/markers.rt:63:16
 is-start-requires : tie.Need-is-start-requires
 is-start-requires c κs = search needs
 
--- src/markers.rt:64:17
 returns : tie.Need-returns
 unfolding firstAt
 returns c = search (fields, cases) depth 12
 
--- src/markers.rt:66:16
 is-same-deletion-requires : tie.Need-is-same-deletion-requires
 is-same-deletion-requires c κs = search needs
 
--- src/markers.rt:67:17
 returns-2 : tie.Need-returns-2
 unfolding firstAt
 returns-2 c = search (fields, cases) depth 12
 
--- src/markers.rt:74:28
 enum-known-fault : tie.Need-enum-known-fault
 enum-known-fault c = search needs
 
--- src/markers.rt:58:1
 returns-3 : tie.Need-returns-3
 unfolding firstAt
 returns-3 c = search (fields, cases) depth 12
 
--- src/markers.rt:58:1
 returns-4 : tie.Need-returns-4
 unfolding firstAt
 returns-4 c = search (fields, cases) depth 12

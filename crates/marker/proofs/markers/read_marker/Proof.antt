@@ -5,51 +5,36 @@ use Rattle.marker.specs.Markers.{markerAt}
 use borrow.Author.Needs.{needs}
 use Rattle.marker.proofs.markers.read_marker.Statement.{statement}
 use Rattle.marker.proofs.markers.read_marker.Tie as tie
-use Rattle.marker.proofs.markers.read_marker.Reads as reads
-use Rattle.marker.proofs.markers.read_marker.Lts as lts
-use Rattle.marker.proofs.kinds.read_kind.Reads as read-kind-reads
-use Rattle.marker.proofs.kinds.read_marker_flags.Reads as read-marker-flags-reads
-use Rattle.marker.proofs.markers.read_bound.Reads as read-bound-reads
 
--- src/markers.rt:199:11
 read-marker-flags-requires : tie.Need-read-marker-flags-requires
 read-marker-flags-requires c κs = search needs
 
--- src/markers.rt:200:33
 enum-known-next : tie.Need-enum-known-next
 enum-known-next c = search needs
 
--- src/markers.rt:200:49
 read-kind-requires : tie.Need-read-kind-requires
 read-kind-requires c κs = search needs
 
--- src/markers.rt:202:24
 enum-known-kind : tie.Need-enum-known-kind
 enum-known-kind c = search needs
 
--- src/markers.rt:204:18
 read-bound-requires : tie.Need-read-bound-requires
 read-bound-requires c κs = search needs
 
--- src/markers.rt:205:28
 enum-known-fault : tie.Need-enum-known-fault
 enum-known-fault c = search needs
 
--- src/markers.rt:207:24
 enum-known-fault-2 : tie.Need-enum-known-fault-2
 enum-known-fault-2 c = search needs
 
--- src/markers.rt:187:1
 returns : tie.Need-returns
 unfolding markerAt
 returns c = search (reading, answers, cases) depth 12
 
--- src/markers.rt:187:1
 returns-2 : tie.Need-returns-2
 unfolding markerAt
 returns-2 c = search (reading, answers, cases) depth 12
 
--- src/markers.rt:187:1
 returns-3 : tie.Need-returns-3
 unfolding markerAt
 returns-3 c = search (reading, answers, cases) depth 12

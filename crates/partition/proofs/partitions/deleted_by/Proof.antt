@@ -4,25 +4,19 @@ use Rattle.cell.proofs.Said.{answers as fields}
 use Rattle.partition.specs.Partitions.{deletedBy}
 use Rattle.partition.proofs.partitions.deleted_by.Statement.{statement}
 use Rattle.partition.proofs.partitions.deleted_by.Tie as tie
-use Rattle.partition.proofs.partitions.deleted_by.Reads as reads
-use Rattle.partition.proofs.partitions.deleted_by.Lts as lts
 
--- src/partitions.rt:50:13
 returns : tie.Need-returns
 unfolding deletedBy
 returns c = search (fields, cases) depth 12
 
--- src/partitions.rt:59:9
 returns-2 : tie.Need-returns-2
 unfolding deletedBy
 returns-2 c = search (fields, cases) depth 12
 
--- src/partitions.rt:65:9
 returns-3 : tie.Need-returns-3
 unfolding deletedBy
 returns-3 c = search (fields, cases) depth 12
 
--- src/partitions.rt:45:1
 returns-4 : tie.Need-returns-4
 unfolding deletedBy
 returns-4 c = search (fields, cases) depth 12

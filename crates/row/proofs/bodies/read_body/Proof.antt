@@ -5,33 +5,23 @@ use Rattle.row.specs.Bodies.{bodyAt}
 use borrow.Author.Needs.{needs}
 use Rattle.row.proofs.bodies.read_body.Statement.{statement}
 use Rattle.row.proofs.bodies.read_body.Tie as tie
-use Rattle.row.proofs.bodies.read_body.Reads as reads
-use Rattle.row.proofs.bodies.read_body.Lts as lts
-use Rattle.clustering.proofs.sizes.read_sizes.Reads as read-sizes-reads
-use Rattle.row.proofs.bodies.read_content.Reads as read-content-reads
 
--- src/bodies.rt:190:11
 read-sizes-requires : tie.Need-read-sizes-requires
 read-sizes-requires c κs = search needs
 
--- src/bodies.rt:191:23
 enum-known-value : tie.Need-enum-known-value
 enum-known-value c = search needs
 
--- src/bodies.rt:191:40
 read-content-requires : tie.Need-read-content-requires
 read-content-requires c κs = search needs
 
--- src/bodies.rt:192:24
 enum-known-fault : tie.Need-enum-known-fault
 enum-known-fault c = search needs
 
--- src/bodies.rt:186:1
 returns : tie.Need-returns
 unfolding bodyAt
 returns c = search (reading, answers, cases) depth 12
 
--- src/bodies.rt:186:1
 returns-2 : tie.Need-returns-2
 unfolding bodyAt
 returns-2 c = search (reading, answers, cases) depth 12

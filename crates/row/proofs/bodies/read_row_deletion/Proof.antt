@@ -4,20 +4,14 @@ use Rattle.row.specs.Bodies.{rowDeletionAt}
 use borrow.Author.Needs.{needs}
 use Rattle.row.proofs.bodies.read_row_deletion.Statement.{statement}
 use Rattle.row.proofs.bodies.read_row_deletion.Tie as tie
-use Rattle.row.proofs.bodies.read_row_deletion.Reads as reads
-use Rattle.row.proofs.bodies.read_row_deletion.Lts as lts
-use Rattle.cell.proofs.fields.read_deletion.Reads as read-deletion-reads
 
--- src/bodies.rt:103:9
 read-deletion-requires : tie.Need-read-deletion-requires
 read-deletion-requires c κs = search needs
 
--- src/bodies.rt:103:9
 returns : tie.Need-returns
 unfolding rowDeletionAt
 returns c = search (fields, cases) depth 12
 
--- src/bodies.rt:99:1
 returns-2 : tie.Need-returns-2
 unfolding rowDeletionAt
 returns-2 c = search (fields, cases) depth 12

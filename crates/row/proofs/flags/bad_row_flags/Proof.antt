@@ -3,20 +3,15 @@ use Rattle.wire.proofs.Choose.{cases}
 use Rattle.row.specs.Flags.{badRowFlags}
 use Rattle.row.proofs.flags.bad_row_flags.Statement.{statement}
 use Rattle.row.proofs.flags.bad_row_flags.Tie as tie
-use Rattle.row.proofs.flags.bad_row_flags.Reads as reads
-use Rattle.row.proofs.flags.bad_row_flags.Lts as lts
 
--- src/flags.rt:14:9
 returns : tie.Need-returns
 unfolding badRowFlags
 returns c = search cases depth 12
 
--- src/flags.rt:17:9
 returns-2 : tie.Need-returns-2
 unfolding badRowFlags
 returns-2 c = search cases depth 12
 
--- src/flags.rt:10:1
 returns-3 : tie.Need-returns-3
 unfolding badRowFlags
 returns-3 c = search cases depth 12

@@ -5,40 +5,30 @@ use Rattle.row.specs.Flags.{extendedOf}
 use borrow.Author.Needs.{needs}
 use Rattle.row.proofs.flags.extended_of.Statement.{statement}
 use Rattle.row.proofs.flags.extended_of.Tie as tie
-use Rattle.row.proofs.flags.extended_of.Reads as reads
-use Rattle.row.proofs.flags.extended_of.Lts as lts
-use Rattle.row.proofs.flags.may_stand.Reads as may-stand-reads
 
--- src/flags.rt:55:9
 returns : tie.Need-returns
 unfolding extendedOf
 returns c = search (reading, answers, cases) depth 12
 
--- src/flags.rt:58:12
 may-stand-requires : tie.Need-may-stand-requires
 may-stand-requires c κs = search needs
 
--- src/flags.rt:59:13
 returns-2 : tie.Need-returns-2
 unfolding extendedOf
 returns-2 c = search (reading, answers, cases) depth 12
 
--- src/flags.rt:61:9
 returns-3 : tie.Need-returns-3
 unfolding extendedOf
 returns-3 c = search (reading, answers, cases) depth 12
 
--- src/flags.rt:67:9
 returns-4 : tie.Need-returns-4
 unfolding extendedOf
 returns-4 c = search (reading, answers, cases) depth 12
 
--- src/flags.rt:73:9
 returns-5 : tie.Need-returns-5
 unfolding extendedOf
 returns-5 c = search (reading, answers, cases) depth 12
 
--- src/flags.rt:51:1
 returns-6 : tie.Need-returns-6
 unfolding extendedOf
 returns-6 c = search (reading, answers, cases) depth 12

@@ -3,15 +3,11 @@ use Rattle.wire.proofs.Choose.{cases}
 use Rattle.row.specs.Flags.{mayStand}
 use Rattle.row.proofs.flags.may_stand.Statement.{statement}
 use Rattle.row.proofs.flags.may_stand.Tie as tie
-use Rattle.row.proofs.flags.may_stand.Reads as reads
-use Rattle.row.proofs.flags.may_stand.Lts as lts
 
--- src/flags.rt:45:9
 returns : tie.Need-returns
 unfolding mayStand
 returns c = search cases depth 12
 
--- src/flags.rt:41:1
 returns-2 : tie.Need-returns-2
 unfolding mayStand
 returns-2 c = search cases depth 12

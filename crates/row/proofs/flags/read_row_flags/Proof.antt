@@ -5,38 +5,27 @@ use Rattle.row.specs.Flags.{rowFlagsAt}
 use borrow.Author.Needs.{needs}
 use Rattle.row.proofs.flags.read_row_flags.Statement.{statement}
 use Rattle.row.proofs.flags.read_row_flags.Tie as tie
-use Rattle.row.proofs.flags.read_row_flags.Reads as reads
-use Rattle.row.proofs.flags.read_row_flags.Lts as lts
-use Rattle.cell.proofs.fields.read_byte.Reads as read-byte-reads
-use Rattle.row.proofs.flags.bad_row_flags.Reads as bad-row-flags-reads
 
--- src/flags.rt:26:11
 read-byte-requires : tie.Need-read-byte-requires
 read-byte-requires c κs = search needs
 
--- src/flags.rt:27:23
 enum-known-value : tie.Need-enum-known-value
 enum-known-value c = search needs
 
--- src/flags.rt:28:16
 bad-row-flags-requires : tie.Need-bad-row-flags-requires
 bad-row-flags-requires c κs = search needs
 
--- src/flags.rt:29:17
 returns : tie.Need-returns
 unfolding rowFlagsAt
 returns c = search (reading, answers, cases) depth 12
 
--- src/flags.rt:36:24
 enum-known-fault : tie.Need-enum-known-fault
 enum-known-fault c = search needs
 
--- src/flags.rt:23:1
 returns-2 : tie.Need-returns-2
 unfolding rowFlagsAt
 returns-2 c = search (reading, answers, cases) depth 12
 
--- src/flags.rt:23:1
 returns-3 : tie.Need-returns-3
 unfolding rowFlagsAt
 returns-3 c = search (reading, answers, cases) depth 12

@@ -6,60 +6,43 @@ use Rattle.clustering.specs.Prefixes.{widthsAt}
 use borrow.Author.Needs.{needs}
 use Rattle.row.proofs.rows.read_row.Statement.{statement}
 use Rattle.row.proofs.rows.read_row.Tie as tie
-use Rattle.row.proofs.rows.read_row.Reads as reads
-use Rattle.row.proofs.rows.read_row.Lts as lts
-use Rattle.row.proofs.flags.read_extended.Reads as read-extended-reads
-use Rattle.row.proofs.flags.read_row_flags.Reads as read-row-flags-reads
-use Rattle.row.proofs.rows.read_rest.Reads as read-rest-reads
 
--- src/rows.rt:85:11
 read-row-flags-requires : tie.Need-read-row-flags-requires
 read-row-flags-requires c κs = search needs
 
--- src/rows.rt:86:30
 enum-known-f : tie.Need-enum-known-f
 enum-known-f c = search needs
 
--- src/rows.rt:86:49
 read-extended-requires : tie.Need-read-extended-requires
 read-extended-requires c κs = search needs
 
--- src/rows.rt:95:24
 enum-known-x : tie.Need-enum-known-x
 enum-known-x c = search needs
 
--- src/rows.rt:99:21
 read-rest-requires : tie.Need-read-rest-requires
 read-rest-requires c κs = search needs
 
--- src/rows.rt:99:21
 returns : tie.Need-returns
 unfolding rowAt widthsAt
 returns c = search (reading, answers, cases) depth 12
 
--- src/rows.rt:101:17
 read-rest-requires-2 : tie.Need-read-rest-requires-2
 read-rest-requires-2 c κs = search needs
 
--- src/rows.rt:103:28
 enum-known-fault : tie.Need-enum-known-fault
 enum-known-fault c = search needs
 
--- src/rows.rt:105:24
 enum-known-fault-2 : tie.Need-enum-known-fault-2
 enum-known-fault-2 c = search needs
 
--- src/rows.rt:71:1
 returns-2 : tie.Need-returns-2
 unfolding rowAt widthsAt
 returns-2 c = search (reading, answers, cases) depth 12
 
--- src/rows.rt:71:1
 returns-3 : tie.Need-returns-3
 unfolding rowAt widthsAt
 returns-3 c = search (reading, answers, cases) depth 12
 
--- src/rows.rt:71:1
 returns-4 : tie.Need-returns-4
 unfolding rowAt widthsAt
 returns-4 c = search (reading, answers, cases) depth 12

@@ -18,8 +18,8 @@ read-requires c κs = search needs
 enum-known-value-2 : tie.Need-enum-known-value-2
 enum-known-value-2 c = search needs
 
-bias-requires : tie.Need-bias-requires
-bias-requires c κs = search needs
+biased-of-requires : tie.Need-biased-of-requires
+biased-of-requires c κs = search needs
 
 enum-known-fault : tie.Need-enum-known-fault
 enum-known-fault c = search needs
@@ -51,7 +51,7 @@ read-token-spec =
     enum-known-value
     read-requires
     enum-known-value-2
-    bias-requires
+    biased-of-requires
     enum-known-fault
     returns
     returns-2

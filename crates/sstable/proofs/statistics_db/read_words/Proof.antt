@@ -9,8 +9,8 @@ read-requires c κs = search needs
 enum-known-t : tie.Need-enum-known-t
 enum-known-t c = search needs
 
-signed-bits-requires : tie.Need-signed-bits-requires
-signed-bits-requires c κs = search needs
+biased-of-requires : tie.Need-biased-of-requires
+biased-of-requires c κs = search needs
 
 enum-known-r : tie.Need-enum-known-r
 enum-known-r c = search needs
@@ -45,7 +45,7 @@ read-words-spec =
     (tie.spec
     read-requires
     enum-known-t
-    signed-bits-requires
+    biased-of-requires
     enum-known-r
     fault-number-requires
     cast-t15

@@ -1,4 +1,4 @@
-use Rattle.wire.proofs.Choose.{cases, told}
+use Rattle.wire.proofs.Choose.{cases}
 use Rattle.wire.proofs.Said.{reading}
 use Rattle.statistics.specs.Bases.{timestampAt}
 use Rattle.statistics.proofs.Times.{biased-sum}
@@ -15,8 +15,8 @@ enum-known-value c = search needs
 wrapping-add-u64-requires : tie.Need-wrapping-add-u64-requires
 wrapping-add-u64-requires c κs = search needs
 
-wrapping-add-u64-requires-2 : tie.Need-wrapping-add-u64-requires-2
-wrapping-add-u64-requires-2 c κs = search needs
+biased-of-requires : tie.Need-biased-of-requires
+biased-of-requires c κs = search needs
 
 enum-known-fault : tie.Need-enum-known-fault
 enum-known-fault c = search needs
@@ -36,7 +36,7 @@ timestamp-spec =
     read-requires
     enum-known-value
     wrapping-add-u64-requires
-    wrapping-add-u64-requires-2
+    biased-of-requires
     enum-known-fault
     returns
     returns-2)

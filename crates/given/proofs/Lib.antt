@@ -1,0 +1,10 @@
+pub mod Records
+pub mod Filled
+pub mod Columns
+pub mod Reread
+pub mod Whole
+pub mod Checked
+pub mod Split
+pub mod Alike
+pub mod Bytes
+pub mod Theorems

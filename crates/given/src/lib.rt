@@ -1,0 +1,1 @@
+// What Statistics gives as schema records, and what the check of schema records accepts: laws alone, no function.
