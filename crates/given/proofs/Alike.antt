@@ -1,6 +1,6 @@
 -- Schemas whose columns are equal but for the places of names. Assumes nothing.
 use mathlib.Core.Path.{_≡_, refl, sym, ap, subst, _∙_}
-use mathlib.Core.Bool.{Bool, true, false}
+use mathlib.Core.Bool.{Bool, false}
 use mathlib.Core.List.{List, [], _∷_, _++_}
 use Prim.Native.Nat.{ℕ, zero, suc, _+_, _-_, _*_, _/_, _%_, _≤_, _<_}
 use native.Mathlib.Nat.{add-zero}
@@ -122,34 +122,30 @@ module _ (c : Column) (v : List ℕ) (at : ℕ) (e : bare c ≡ bare (columnAt v
     inner i l o (no a) (yes b) d = moved i (12 + (i - 12)) (omega arith) (tail-byte z (i - 12) (omega arith))
     inner i l o (no a) (no b) (yes d) = moved i (4 + (i - 4)) (omega arith) (place-byte f g d (i - 4) (omega arith))
     inner i l o (no a) (no b) (no d) =
-        let p = behind _ _ o (le-ltb (roleAt v at) 2 (omega arith)) in
-        absurd (omega (arith, ltb-false (i % 16) 12 (behind _ _ p (le-ltb (i % 16) 4 (omega arith)))))
+        let p = behind _ _ o (le-ltb (roleAt v at) _ (omega arith)) in
+        absurd (omega (arith, ltb-false i _ (behind _ _ p (le-ltb i _ (omega arith)))))
 
     record-byte : (i : ℕ) → i < 16 → ofPlace (roleAt v at) i ≡ false → getD v (at + i) 0 ≡ getD (recordOf c) i 0
     record-byte i l o = inner i l o (decLt i 4) (decLe 12 i) (decLt (roleAt v at) 2)
 
 -- ---- the records
-place-before : (role j : ℕ) → ofPlace role (16 + j) ≡ ofPlace role j
-place-before role j =
-    let e : (16 + j) % 16 ≡ j % 16 = omega arith in
-    ap (λ (x : ℕ). pick (ltb role 2) false (pick (ltb x 4) false (ltb x 12))) e
-
 abbrev spared : List ℕ → ℕ → ℕ → Bool
-spared v at i = ofPlace (roleAt v (at + 16 * (i / 16))) i
+spared v at i = ofPlace (roleAt v (at + 16 * (i / 16))) (i % 16)
 
 module _ (c : Column) (cs : List Column) (v : List ℕ) (at k : ℕ) (e : bare c ≡ bare (columnAt v at)) (a : Nameless c) (b : Nameless (columnAt v at)) (z : zerosAt v at ≡ 0)
     (rest : (j : ℕ) → j < 16 * k → spared v (at + 16) j ≡ false → getD v (at + 16 + j) 0 ≡ getD (recordsOf cs) j 0) where
   first-or-later : (i : ℕ) → i < 16 * suc k → spared v at i ≡ false → Dec (i < 16) → getD v (at + i) 0 ≡ getD (recordOf c ++ recordsOf cs) i 0
   first-or-later i l f (yes h) =
       let p : at ≡ at + 16 * (i / 16) = omega arith in
-      record-byte c v at e a b z i h (ap (λ (x : ℕ). ofPlace (roleAt v x) i) p ∙ f) ∙ sym (List·getD-append (recordOf c) (recordsOf cs) 0 i (omega (arith, length-record c)))
+      let r : i ≡ i % 16 = omega arith in
+      record-byte c v at e a b z i h (ap (λ (x : ℕ). ofPlace (roleAt v x) i) p ∙ ap (ofPlace (roleAt v (at + 16 * (i / 16)))) r ∙ f) ∙ sym (List·getD-append (recordOf c) (recordsOf cs) 0 i (omega (arith, length-record c)))
   first-or-later i l f (no h) =
-      let p : 16 + (i - 16) ≡ i = omega arith in
+      let p : (i - 16) % 16 ≡ i % 16 = omega arith in
       let q : at + i ≡ at + 16 + (i - 16) = omega arith in
       let o : at + 16 + 16 * ((i - 16) / 16) ≡ at + 16 * (i / 16) = omega arith in
       let n : i ≡ length (recordOf c) + (i - 16) = omega (arith, length-record c) in
       ap (λ (x : ℕ). getD v x 0) q
-      ∙ rest (i - 16) (omega arith) (ap (λ (x : ℕ). ofPlace (roleAt v x) (i - 16)) o ∙ sym (place-before (roleAt v (at + 16 * (i / 16))) (i - 16)) ∙ ap (ofPlace (roleAt v (at + 16 * (i / 16)))) p ∙ f)
+      ∙ rest (i - 16) (omega arith) (ap (λ (x : ℕ). ofPlace (roleAt v x) ((i - 16) % 16)) o ∙ ap (ofPlace (roleAt v (at + 16 * (i / 16)))) p ∙ f)
       ∙ sym (ap (λ (x : ℕ). getD (recordOf c ++ recordsOf cs) x 0) n ∙ getD-append-add (recordOf c) (recordsOf cs) (i - 16) 0)
 
 records-byte : (cs : List Column) (v : List ℕ) (at k : ℕ) → bares cs ≡ bares (columnsFrom v at k) → Every Nameless cs → Every Nameless (columnsFrom v at k)
@@ -175,5 +171,5 @@ alike cs v k l e a b z =
       lengths = omega (arith, length-records cs);
       bytes = λ i h f.
           let p : 0 + 16 * (i / 16) ≡ 16 * (i / 16) = omega arith in
-          ap (λ (x : ℕ). getD v x 0) (omega arith) ∙ records-byte cs v 0 k e a b z i (omega arith) (ap (λ (x : ℕ). ofPlace (roleAt v x) i) p ∙ f);
+          ap (λ (x : ℕ). getD v x 0) (omega arith) ∙ records-byte cs v 0 k e a b z i (omega arith) (ap (λ (x : ℕ). ofPlace (roleAt v x) (i % 16)) p ∙ f);
     }

@@ -1,5 +1,5 @@
 -- The Statistics that is made for a schema is a list of bytes, and short. Assumes nothing.
-use mathlib.Core.Path.{_≡_, refl, sym, ap, subst, _∙_}
+use mathlib.Core.Path.{refl}
 use mathlib.Core.Bool.{Bool, true, false}
 use mathlib.Core.List.{List, [], _∷_, _++_}
 use Prim.Native.Nat.{ℕ, zero, suc, _+_, _-_, _*_, _/_, _%_, _^_, _≤_, _<_}
@@ -10,17 +10,16 @@ use Rattle.wire.specs.Choose.{pick, bind}
 use Rattle.wire.specs.BigEndian.{bytesOf}
 use Rattle.wire.specs.Varints.{shortest, form, extra}
 use Rattle.wire.proofs.Choose.{pick-ind}
-use Rattle.wire.proofs.Finite.{both, allBelow, below-at}
+use Rattle.wire.proofs.Finite.{allBelow, below-at}
 use Rattle.wire.proofs.BigEndian.{length-bytesOf}
 use Rattle.wire.proofs.Shortest.{extra-le, first-lt, length-shortest}
-use Rattle.typetable.specs.Text.{text}
 use Rattle.typetable.specs.Table.{table, noLine, nth, lineOf}
 use Rattle.typetable.proofs.Texts.{first-passes, then-passes}
 use Rattle.types.specs.declared.Kind.{Kind}
 use Rattle.types.proofs.Carried.{Carried}
 use Rattle.types.proofs.Spelled.{spelled, typeBytes}
 use Rattle.schema.specs.declared.columns.Column.{Column}
-use Rattle.given.specs.Canonical.{letters, kindOf, columnBytes, columnsBytes, groupBytes, basesBytes, groupsBytes, headerBytes, contentsBytes, validationBytes, statisticsBytes}
+use Rattle.given.specs.Canonical.{letters, lettersOf, kindOf, columnBytes, columnsBytes, groupBytes, basesBytes, groupsBytes, headerBytes, contentsBytes, validationBytes, statisticsBytes}
 use Rattle.given.proofs.Records.{Every, empty, each}
 use Rattle.given.proofs.Columns.{Kinded}
 
@@ -106,8 +105,9 @@ column-within : (i role : ℕ) (c : Column) → i ≤ 200 → Kinded role c → 
 unfolding columnBytes
 column-within i role c l k =
     let t = type-within (kindOf c) (k .typed) in
-    pick-ind (Within 300) _ _ (ltb (c .role) 2) (λ e. wider 73 300 _ (omega arith) t) (λ e.
-    wider (9 + (i + 73)) 300 _ (omega arith) (append 9 (i + 73) (shortest i) _ (shortest-within i (omega arith)) (append i 73 (letters i) _ (letters-within i) t)))
+    let n = lettersOf i in
+    pick-ind (Within 300) _ _ _ (λ e. wider 73 300 _ (omega arith) t) (λ e.
+    wider (9 + (n + 73)) 300 _ (omega arith) (append 9 (n + 73) (shortest n) _ (shortest-within n (omega arith)) (append n 73 (letters n) _ (letters-within n) t)))
 
 columns-within : (i role : ℕ) (cs : List Column) → i + length cs ≤ 200 → Every (Kinded role) cs → Within (300 * length cs) (columnsBytes i cs)
 unfolding columnsBytes

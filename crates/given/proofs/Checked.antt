@@ -1,25 +1,23 @@
 -- What the check of a schema accepts: its columns' types, and their turns. Assumes nothing.
-use mathlib.Core.Path.{_≡_, refl, sym, ap, subst, _∙_}
+use mathlib.Core.Path.{_≡_, refl, sym, ap, _∙_}
 use mathlib.Core.Bool.{Bool, true, false}
-use mathlib.Core.List.{List, [], _∷_}
+use mathlib.Core.List.{List}
 use Prim.Native.Nat.{ℕ, zero, suc, _+_, _-_, _*_, _/_, _≤_, _<_}
 use native.Mathlib.Omega.{arith}
 use native.Mathlib.Decide.{decLt}
-use borrow.Author.Tests.{lt-ltb, le-ltb, ltb-true, ltb-false, eqb-true, eqb-false}
+use borrow.Author.Tests.{lt-ltb, le-ltb, ltb-false, eqb-true, eqb-false}
 use lib.Dec.{ltb, eqb}
 use lib.ListN.{length}
 use Rattle.wire.specs.Choose.{pick, bind}
-use Rattle.wire.specs.Got.{Got, got, bad, on}
 use Rattle.wire.proofs.Gives.{Gives, gives-on, gives-got, gives-bad, gives-pick}
 use Rattle.typetable.specs.Table.{lineOf, noLine, isLine}
 use Rattle.typetable.proofs.Rows.{line-yes, row-outside}
-use Rattle.types.proofs.Carried.{Carried, carried-is}
+use Rattle.types.proofs.Carried.{carried-is}
 use Rattle.schema.specs.Records.{roleAt, lineAt, markAt, widthAt, nameAt, nameLenAt, zerosAt, isLineOf, isNameOf, isKindOf, given, none, inTurn, withOne, recordAt, recordsAt, schemaAt}
 use Rattle.schema.specs.Columns.{columnAt}
 use Rattle.schema.specs.declared.columns.Column.{Column}
 use Rattle.schema.specs.declared.records.Counts.{Counts}
 use Rattle.statistics.specs.Buffer.{columnsFrom}
-use Rattle.given.specs.Canonical.{kindOf}
 use Rattle.given.proofs.Records.{Every, empty, each, Turns, done, turn}
 use Rattle.given.proofs.Columns.{Kinded, Nameless}
 
@@ -29,7 +27,7 @@ unfolding pick
 left true b e = refl
 left false b e = e
 
-right : (a b : Bool) → pick a b false ≡ true → b ≡ true
+pub right : (a b : Bool) → pick a b false ≡ true → b ≡ true
 unfolding pick
 right true b e = e
 right false b e = cc
@@ -44,7 +42,7 @@ unfolding pick
 then true b e = cc
 then false b e = e
 
-yes-is : (t a b : Bool) → pick t a b ≡ true → t ≡ true → a ≡ true
+pub yes-is : (t a b : Bool) → pick t a b ≡ true → t ≡ true → a ≡ true
 unfolding pick
 yes-is t a b e f = rw f at e
 
@@ -105,8 +103,8 @@ module _ (c : Column) (e : isKindOf (c .role) (c .line) (c .reversed) (c .width)
   pub kinded : Kinded (c .role) c
   kinded = record {
     is = refl;
-    typed = carried-is false (c .line) (c .reversed) is-line plain mark (λ z. let w : _≡_ {A = ℕ} 0 1 = cc in absurd (omega arith));
-    named = λ h. carried-is true (c .line) (c .reversed) is-line plain mark (λ z. no-is _ _ _ lines (le-ltb (c .role) 2 h));
+    typed = carried-is false _ _ is-line plain (omega (arith, mark)) (λ z. let w : _≡_ {A = ℕ} 0 1 = cc in absurd (omega arith));
+    named = λ h. carried-is true _ _ is-line plain (omega (arith, mark)) (λ z. no-is _ _ _ lines (le-ltb (c .role) 2 h));
     width = width;
   }
 
@@ -118,21 +116,21 @@ pub record Column-ok (c : Column) : Type 0 where
   pub nameless : Nameless c
 
 -- k records from at on are accepted behind those counted in c, and with them d are counted
-pub record Checked (v : List ℕ) (stop : ℕ) (c d : Counts) (at k : ℕ) : Type 0 where
+pub record Checked (limit : ℕ) (v : List ℕ) (stop : ℕ) (c d : Counts) (at k : ℕ) : Type 0 where
   pub turns : Turns c d (columnsFrom v at k)
   pub kinds : Every Column-ok (columnsFrom v at k)
   pub within : at + 16 * k ≤ stop
-  pub zeros : (q : ℕ) → q < k → zerosAt v (at + 16 * q) ≡ 0
+  pub passes : (q : ℕ) → q < k → given limit v (at + 16 * q) ≡ true
 
 module _ (limit : ℕ) (v : List ℕ) (stop : ℕ) where
-  record One (c : Counts) (at : ℕ) (d : Counts) (n : ℕ) : Type 0 where
+  pub record One (c : Counts) (at : ℕ) (d : Counts) (n : ℕ) : Type 0 where
     counted : d ≡ withOne (roleAt v at) c
-    next : n ≡ at + 16
+    pub next : n ≡ at + 16
     fits : 16 ≤ stop - at
     gives : given limit v at ≡ true
     turned : inTurn (roleAt v at) c ≡ true
 
-  one-gives : (c : Counts) (at : ℕ) → Gives (recordAt limit c v at stop) (One c at)
+  pub one-gives : (c : Counts) (at : ℕ) → Gives (recordAt limit c v at stop) (One c at)
   unfolding recordAt
   one-gives c at =
       gives-pick (ltb (stop - at) 16) (λ e. gives-bad _ _) (λ e.
@@ -140,15 +138,15 @@ module _ (limit : ℕ) (v : List ℕ) (stop : ℕ) where
       gives-pick (inTurn (roleAt v at) c) (λ g. gives-got _ _ (record { counted = refl; next = refl; fits = ltb-false (stop - at) 16 e; gives = f; turned = g })) (λ g. gives-bad _ _))
       (λ f. gives-bad _ _))
 
-  kind-of : (at : ℕ) → given limit v at ≡ true → isKindOf (roleAt v at) (lineAt v at) (markAt v at) (widthAt v at) ≡ true
+  pub kind-of : (at : ℕ) → given limit v at ≡ true → isKindOf (roleAt v at) (lineAt v at) (markAt v at) (widthAt v at) ≡ true
   unfolding given
   kind-of at e = left _ _ e
 
-  zeros-of : (at : ℕ) → given limit v at ≡ true → zerosAt v at ≡ 0
+  pub zeros-of : (at : ℕ) → given limit v at ≡ true → zerosAt v at ≡ 0
   unfolding given
   zeros-of at e = eqb-true _ _ (right (isNameOf limit (roleAt v at) (nameAt v at) (nameLenAt v at)) _ (right (isKindOf (roleAt v at) (lineAt v at) (markAt v at) (widthAt v at)) _ e))
 
-  name-of : (at : ℕ) → given limit v at ≡ true → isNameOf limit (roleAt v at) (nameAt v at) (nameLenAt v at) ≡ true
+  pub name-of : (at : ℕ) → given limit v at ≡ true → isNameOf limit (roleAt v at) (nameAt v at) (nameLenAt v at) ≡ true
   unfolding given
   name-of at e = left _ _ (right (isKindOf (roleAt v at) (lineAt v at) (markAt v at) (widthAt v at)) _ e)
 
@@ -171,41 +169,41 @@ module _ (limit : ℕ) (v : List ℕ) (stop : ℕ) where
   unfolding columnAt
   role-is at = refl
 
-  more : (c e d : Counts) (at n k : ℕ) → One c at e n → Checked v stop e d n k → Checked v stop c d at (suc k)
+  more : (c e d : Counts) (at n k : ℕ) → One c at e n → Checked limit v stop e d n k → Checked limit v stop c d at (suc k)
   unfolding columnsFrom
   more c e d at n k o h =
-      let g : Checked v stop (withOne (roleAt v at) c) d (at + 16) k = rw (o .counted, o .next) at h in
+      let g : Checked limit v stop (withOne (roleAt v at) c) d (at + 16) k = rw (o .counted, o .next) at h in
       record {
         turns = turn {c = c} {d = d} {x = columnAt v at} {xs = columnsFrom v (at + 16) k} (rw (role-is at) (o .turned)) (rw (role-is at) (g .turns));
         kinds = each (column-ok at (o .gives)) (g .kinds);
         within = omega (arith, g .within);
-        zeros = λ q l. go q l g;
+        passes = λ q l. go q l g;
       }
     where
-      go : (q : ℕ) → q < suc k → Checked v stop (withOne (roleAt v at) c) d (at + 16) k → zerosAt v (at + 16 * q) ≡ 0
-      go zero l g = ap (zerosAt v) (omega arith) ∙ zeros-of at (o .gives)
-      go (suc q) l g = ap (zerosAt v) (omega arith) ∙ g .zeros q (omega arith)
+      go : (q : ℕ) → q < suc k → Checked limit v stop (withOne (roleAt v at) c) d (at + 16) k → given limit v (at + 16 * q) ≡ true
+      go zero l g = ap (given limit v) (omega arith) ∙ o .gives
+      go (suc q) l g = ap (given limit v) (omega arith) ∙ g .passes q (omega arith)
 
-  records-give : (k : ℕ) (c : Counts) (at : ℕ) → at ≤ stop → Gives (recordsAt limit k c v at stop) (λ d n. Checked v stop c d at k)
+  records-give : (k : ℕ) (c : Counts) (at : ℕ) → at ≤ stop → Gives (recordsAt limit k c v at stop) (λ d n. Checked limit v stop c d at k)
   unfolding recordsAt columnsFrom
-  records-give zero c at l = gives-got c at (record { turns = done; kinds = empty; within = omega arith; zeros = λ q m. absurd (omega arith) })
+  records-give zero c at l = gives-got c at (record { turns = done; kinds = empty; within = omega arith; passes = λ q m. absurd (omega arith) })
   records-give (suc k) c at l =
       gives-on _ (one-gives c at) (λ e n o.
       record { given = λ d m p. more c e d at n k o (records-give k e n (omega (arith, o .next, o .fits)) .given d m p) })
 
 -- the whole schema
-pub record Schema (v : List ℕ) (d : Counts) : Type 0 where
+pub record Schema (limit : ℕ) (v : List ℕ) (d : Counts) : Type 0 where
   pub some : length v ≡ 0 → ⊥
   pub size : length v ≡ 16 * (length v / 16)
-  pub checked : Checked v (length v) none d 0 (length v / 16)
+  pub checked : Checked limit v (length v) none d 0 (length v / 16)
 
-pub schema-gives : (limit : ℕ) (v : List ℕ) → Gives (schemaAt limit v) (λ d n. Schema v d)
+pub schema-gives : (limit : ℕ) (v : List ℕ) → Gives (schemaAt limit v) (λ d n. Schema limit v d)
 unfolding schemaAt
 schema-gives limit v =
     gives-pick (eqb (length v) 0) (λ e. gives-bad _ _) (λ e.
     record {
       given = λ d n p.
-          let h : Checked v (length v) none d 0 ((length v + 15) / 16) = records-give limit v (length v) _ none 0 (omega arith) .given d n p in
+          let h : Checked limit v (length v) none d 0 ((length v + 15) / 16) = records-give limit v (length v) _ none 0 (omega arith) .given d n p in
           let k : (length v + 15) / 16 ≡ length v / 16 = omega (arith, h .within) in
           record { some = eqb-false (length v) 0 e; size = omega (arith, h .within); checked = rw k at h };
     })

@@ -1,29 +1,29 @@
 -- What the header of Statistics gives: columns whose records are accepted. Assumes nothing.
-use mathlib.Core.Path.{_≡_, refl, sym, ap, _∙_}
+use mathlib.Core.Path.{_≡_, refl, sym, ap}
 use mathlib.Core.Bool.{Bool, true, false}
 use mathlib.Core.List.{List, [], _∷_, _++_}
 use Prim.Native.Nat.{ℕ, zero, suc, _+_, _-_, _/_, _%_, _^_, _≤_, _<_}
 use native.Mathlib.Nat.{add-zero}
 use native.Mathlib.Omega.{arith}
 use borrow.Author.Tests.{lt-ltb, le-ltb, le-leb, ne-eqb, eq-eqb, ltb-true, ltb-false}
-use lib.Dec.{ltb, eqb}
+use lib.Dec.{ltb}
 use lib.ListN.{length}
 use Rattle.wire.specs.Choose.{pick, bind}
-use Rattle.wire.specs.Got.{Got, got, bad, on}
+use Rattle.wire.specs.Got.{Got}
 use Rattle.wire.specs.Store.{shown}
 use Rattle.wire.specs.BigEndian.{bytesOf}
 use Rattle.wire.proofs.Choose.{pick-yes, pick-no, pick-ind, bind-self}
 use Rattle.wire.proofs.Gives.{Gives, gives-on, gives-got, gives-bad, gives-pick, gives-bind}
 use Rattle.wire.proofs.Varints.{varint-ends}
-use Rattle.typetable.specs.Table.{lineOf, isLine}
+use Rattle.typetable.specs.Table.{lineOf}
 use Rattle.types.specs.declared.Kind.{Kind}
 use Rattle.types.proofs.Carried.{Carried, carried-line, type-gives}
 use Rattle.schema.specs.Records.{isLineOf, isNameOf, isKindOf, none, anywhere, countOf, mostOf, isPassed, isFirst, inTurn, withOne}
 use Rattle.schema.specs.declared.columns.Column.{Column}
 use Rattle.schema.specs.declared.records.Counts.{Counts}
 use Rattle.entries.specs.declared.contents.Contents.{Contents}
-use Rattle.statistics.specs.Header.{column, countAt, isNamed, nameAt, typedAt, namedAt, columnAt, columnsAt, Group, Groups, groupAt, groupsAt, Header, headerAt, headOf, placeOf, tailOf, recordOf, recordsOf}
-use Rattle.statistics.specs.Statistics.{File, entry0At, entry3At, forwardAt, backwardAt, entriesAt, fileAt}
+use Rattle.statistics.specs.Header.{column, countAt, isNamed, nameAt, typedAt, namedAt, columnAt, columnsAt, groupAt, groupsAt, headerAt, headOf, placeOf, tailOf, recordOf, recordsOf}
+use Rattle.statistics.specs.Statistics.{File, entry3At, forwardAt, backwardAt, entriesAt, fileAt}
 use Rattle.given.specs.Schemas.{counts, countsOf}
 use Rattle.given.proofs.Columns.{Nameless}
 use Rattle.given.proofs.Records.{Every, empty, each, every-append, Turns, done, turn, turns-more, Fit}

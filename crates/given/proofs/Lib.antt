@@ -7,4 +7,5 @@ pub mod Checked
 pub mod Split
 pub mod Alike
 pub mod Bytes
+pub mod Agree
 pub mod Theorems

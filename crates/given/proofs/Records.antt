@@ -1,18 +1,15 @@
 -- The records of columns, as the check of a schema reads them. Assumes nothing.
 use mathlib.Core.Path.{_≡_, refl, sym, ap, _∙_}
-use mathlib.Core.Bool.{Bool, true, false}
+use mathlib.Core.Bool.{true}
 use mathlib.Core.List.{List, [], _∷_, _++_}
-use Prim.Native.Nat.{ℕ, zero, suc, _+_, _-_, _*_, _/_, _^_, _≤_, _<_}
-use native.Mathlib.Nat.{add-zero}
+use Prim.Native.Nat.{ℕ, _+_, _-_, _/_, _^_, _<_}
 use native.Mathlib.Omega.{arith}
 use borrow.Author.Tests.{le-ltb, ne-eqb}
-use lib.Dec.{ltb, eqb}
-use lib.ListN.{length, getD, length-append}
-use Rattle.wire.specs.Choose.{pick}
-use Rattle.wire.specs.Got.{Got, got, bad, on}
-use Rattle.wire.specs.BigEndian.{bigEndian, bytesOf}
+use lib.ListN.{length, getD}
+use Rattle.wire.specs.Got.{got, on}
+use Rattle.wire.specs.BigEndian.{bytesOf}
 use Rattle.wire.proofs.Choose.{pick-yes, pick-no}
-use Rattle.wire.proofs.BigEndian.{length-bytesOf, spelled-back}
+use Rattle.wire.proofs.BigEndian.{spelled-back}
 use Rattle.wire.proofs.Stands.{Stands, stands-left, stands-right}
 use Rattle.schema.specs.Records.{roleAt, lineAt, markAt, widthAt, nameAt, nameLenAt, zerosAt, isKindOf, isNameOf, given, inTurn, withOne, none, recordAt, recordsAt, schemaAt}
 use Rattle.schema.specs.Columns.{columnAt}

@@ -2,35 +2,28 @@
 use mathlib.Core.Path.{_≡_, refl, sym, ap, _∙_}
 use mathlib.Core.Bool.{Bool, true, false}
 use mathlib.Core.List.{List, [], _∷_, _++_, append-assoc, append-nil}
-use Prim.Native.Nat.{ℕ, zero, suc, _+_, _-_, _*_, _^_, _≤_, _<_}
+use Prim.Native.Nat.{ℕ, zero, suc, _+_, _-_, _^_, _≤_, _<_}
 use native.Mathlib.Omega.{arith}
-use borrow.Author.Tests.{lt-ltb, le-ltb, eq-eqb, ltb-true, ltb-false}
-use lib.Dec.{ltb, eqb}
-use lib.ListN.{length, take, drop, length-append, length-take, length-drop}
+use borrow.Author.Tests.{lt-ltb, le-ltb, ltb-true, ltb-false}
+use lib.Dec.{ltb}
+use lib.ListN.{length, length-take, length-drop}
 use Rattle.wire.specs.Choose.{pick, bind}
-use Rattle.wire.specs.Got.{Got, got, bad, on}
+use Rattle.wire.specs.Got.{Got}
 use Rattle.wire.specs.Store.{part, shown}
-use Rattle.wire.specs.BigEndian.{bytesOf, fixedAt}
-use Rattle.wire.specs.Varints.{shortest, varintAt}
-use Rattle.wire.specs.declared.times.Bases.{Bases}
+use Rattle.wire.specs.Varints.{shortest}
 use Rattle.wire.proofs.Choose.{pick-yes, pick-no, pick-ind}
 use Rattle.wire.proofs.RoundTrip.{Reads, reads-got, reads-on, reads-at, reads-yes, reads-no, reads-to}
-use Rattle.wire.proofs.Stands.{Stands, stands-left, stands-right, narrow}
-use Rattle.wire.proofs.BigEndian.{length-bytesOf, fixed-back}
+use Rattle.wire.proofs.Stands.{Stands, stands-left, stands-right}
 use Rattle.wire.proofs.Varints.{varint-back}
 use Rattle.typetable.specs.Table.{lineOf}
 use Rattle.typetable.specs.Text.{same}
 use Rattle.typetable.proofs.Texts.{same-lengths}
-use Rattle.types.specs.Strings.{typeAt}
-use Rattle.types.specs.declared.Kind.{Kind}
-use Rattle.types.proofs.Carried.{Carried}
 use Rattle.types.proofs.Spelled.{typeBytes, type-back}
 use Rattle.schema.specs.Records.{mostOf}
 use Rattle.schema.specs.declared.columns.Column.{Column}
 use Rattle.statistics.specs.Bases.{timestampAt, localOf, localAt, ttlAt, basesAt}
-use Rattle.statistics.specs.declared.columns.Name.{Name}
-use Rattle.statistics.specs.Header.{column, countAt, isNamed, nameAt, typedAt, namedAt, columnAt, columnsAt, Group, Groups, groupAt, groupsAt, Header, headerAt}
-use Rattle.given.specs.Canonical.{letters, kindOf, columnBytes, columnsBytes, groupBytes, basesBytes, groupsBytes, headerBytes}
+use Rattle.statistics.specs.Header.{column, countAt, isNamed, nameAt, typedAt, namedAt, columnAt, columnsAt, Group, groupAt, groupsAt, headerAt}
+use Rattle.given.specs.Canonical.{letters, lettersOf, kindOf, columnBytes, columnsBytes, groupBytes, basesBytes, groupsBytes, headerBytes}
 use Rattle.given.proofs.Records.{Every, empty, each, every-append, every-map}
 use Rattle.given.proofs.Columns.{bareOf, bare, bares, bares-append, Kinded, Short}
 
@@ -96,11 +89,11 @@ module _ (s : List ℕ) (stop : ℕ) where
 
   typed-bytes : (i : ℕ) (d : Column) → d .role < 2 → columnBytes i d ≡ typeBytes (kindOf d)
   unfolding columnBytes
-  typed-bytes i d h = sym (pick-yes _ _ _ _ (lt-ltb (d .role) 2 h) refl)
+  typed-bytes i d h = sym (pick-yes _ _ _ _ (lt-ltb (d .role) _ (omega arith)) refl)
 
-  named-bytes : (i : ℕ) (d : Column) → 2 ≤ d .role → columnBytes i d ≡ (shortest i ++ letters i) ++ typeBytes (kindOf d)
+  named-bytes : (i : ℕ) (d : Column) → 2 ≤ d .role → columnBytes i d ≡ (shortest (lettersOf i) ++ letters (lettersOf i)) ++ typeBytes (kindOf d)
   unfolding columnBytes
-  named-bytes i d h = sym (pick-no _ _ _ _ (le-ltb (d .role) 2 h) (append-assoc (shortest i) (letters i) (typeBytes (kindOf d))))
+  named-bytes i d h = sym (pick-no _ _ _ _ (le-ltb (d .role) _ (omega arith)) (append-assoc (shortest (lettersOf i)) (letters (lettersOf i)) (typeBytes (kindOf d))))
 
   module _ (role i : ℕ) (cs : List Column) (d : Column) (l : i < 2 ^ 64) (k : Kinded role d) (e : Every (Short i) cs) (at n : ℕ) (h : Stands s stop at n (columnBytes i d)) where
     typed-back : role < 2 → Reads (typedAt role s at stop) n (Back i d)
@@ -112,9 +105,10 @@ module _ (s : List ℕ) (stop : ℕ) where
     named-back : 2 ≤ role → Reads (namedAt role cs s at stop) n (Back i d)
     unfolding namedAt
     named-back m =
-        let w = shortest i ++ letters i in
+        let w = shortest (lettersOf i) ++ letters (lettersOf i) in
+        let shorter : Every (Short (lettersOf i)) cs = every-map (λ x o. record { len = omega (arith, o .len) }) e in
         let g : Stands s stop at n (w ++ typeBytes (kindOf d)) = rw (named-bytes i d (omega (arith, k .is))) at h in
-        reads-on _ (name-back i cs at _ l e (stands-left s stop at n w (typeBytes (kindOf d)) g)) (λ name q.
+        reads-on _ (name-back (lettersOf i) cs at _ (omega arith) shorter (stands-left s stop at n w (typeBytes (kindOf d)) g)) (λ name q.
         reads-at _ (type-back true (kindOf d) (k .named m) s stop _ n (stands-right s stop at n w (typeBytes (kindOf d)) g))
         (reads-got _ n (record { same = bare-same role d (name .start) (name .len) k; len = omega arith })))
 

@@ -3,9 +3,9 @@
 -- read". Assumes nothing.
 use mathlib.Core.Path.{_≡_, sym, ap, _∙_}
 use mathlib.Core.List.{List}
-use Prim.Native.Nat.{ℕ, _/_, _≤_}
+use Prim.Native.Nat.{ℕ, _/_, _≤_, _<_}
 use native.Mathlib.Omega.{arith}
-use lib.ListN.{length}
+use lib.ListN.{length, getD}
 use Rattle.wire.specs.Got.{got}
 use Rattle.wire.proofs.Gives.{gives-is}
 use Rattle.schema.specs.Records.{schemaAt, anywhere}
@@ -19,10 +19,11 @@ use Rattle.given.proofs.Records.{schema-back, every-map}
 use Rattle.given.proofs.Filled.{Taken, file-gives, taken-some, in-fit, lows, low-records, length-lows, low-turns, low-fits}
 use Rattle.given.proofs.Columns.{bares, counted-alike}
 use Rattle.given.proofs.Whole.{file-back}
-use Rattle.given.proofs.Checked.{schema-gives}
+use Rattle.given.proofs.Checked.{zeros-of, schema-gives}
 use Rattle.given.proofs.Split.{schema-of}
 use Rattle.given.proofs.Alike.{length-from, alike}
 use Rattle.given.proofs.Bytes.{file-within}
+use Rattle.given.proofs.Agree.{accepted-alike}
 
 -- ---- what Statistics fills is accepted: one key, and as many clustering, static and regular columns as the header has
 module _ (s : List ℕ) (x : File) (n : ℕ) (e : fileAt s ≡ got x n) where
@@ -61,6 +62,13 @@ accepted-is-given v c m e =
       content = r .value;
       end = length s;
       read = r .is;
-      gives = alike (r .value .header .columns) v k (h .size) same (every-map (λ y i. i .nameless) (given .fits)) (every-map (λ y o. o .nameless) (h .checked .kinds)) (h .checked .zeros);
+      gives = alike (r .value .header .columns) v k (h .size) same (every-map (λ y i. i .nameless) (given .fits)) (every-map (λ y o. o .nameless) (h .checked .kinds)) (λ q l. zeros-of anywhere v (length v) _ (h .checked .passes q l));
       counted = counted-alike (r .value .header .columns) cs _ _ c same (given .turns) (h .checked .turns);
     }
+
+-- ---- and no other: bytes that are what some Statistics gives but for the places of names are accepted
+pub given-is-accepted : (v : List ℕ) (c : Counts) → ((i : ℕ) → getD v i 0 < 256) → Source v c → schemaAt anywhere v ≡ got c (length v)
+given-is-accepted v c small s =
+    let e : schemaAt anywhere v ≡ got (countsOf (s .content .header .sizes)) (length (recordsOf (s .content .header .columns))) =
+    accepted-alike v _ _ _ small (s .gives) (filled-is-accepted (s .file) (s .content) (s .end) (s .read)) in
+    e ∙ cc (s .counted, s .gives .lengths)

@@ -1,16 +1,14 @@
 -- The whole file that is made for a schema is read back. Assumes nothing.
-use mathlib.Core.Path.{_≡_, refl, sym, ap, _∙_}
-use mathlib.Core.Bool.{Bool, true, false}
-use mathlib.Core.List.{List, [], _∷_, _++_}
-use Prim.Native.Nat.{ℕ, suc, _+_, _-_, _*_, _^_, _≤_, _<_}
+use mathlib.Core.Path.{_≡_, refl}
+use mathlib.Core.Bool.{false}
+use mathlib.Core.List.{List, _∷_, _++_}
+use Prim.Native.Nat.{ℕ, _+_, _-_, _^_, _≤_, _<_}
 use native.Mathlib.Omega.{arith}
 use borrow.Author.Tests.{le-ltb, ltb-false, eq-eqb}
-use lib.Dec.{ltb, eqb}
+use lib.Dec.{ltb}
 use lib.Ieee as Ieee
-use lib.Ieee.{binary64}
-use lib.ListN.{length, length-append}
+use lib.ListN.{length}
 use Rattle.wire.specs.Choose.{pick, bind}
-use Rattle.wire.specs.Got.{Got, got, bad, on}
 use Rattle.wire.specs.BigEndian.{bytesOf, fixedAt}
 use Rattle.wire.proofs.Choose.{pick-ind}
 use Rattle.wire.proofs.RoundTrip.{Reads, reads-got, reads-on, reads-at, reads-yes, reads-no, reads-to}
@@ -18,10 +16,9 @@ use Rattle.wire.proofs.Stands.{Stands, stands-left, stands-right, narrow}
 use Rattle.wire.proofs.BigEndian.{length-bytesOf, fixed-back}
 use Rattle.schema.specs.declared.columns.Column.{Column}
 use Rattle.entries.specs.Contents.{none, offsetOf, withEntry, used, entryTypeAt, offsetAt, pairsAt, countAt, present, contentsAt, nearer, endOf}
-use Rattle.entries.specs.Validation.{zero64, one64, chanceOf, chanceAt, validationAt}
+use Rattle.entries.specs.Validation.{chanceOf, chanceAt, validationAt}
 use Rattle.entries.specs.declared.contents.Contents.{Contents}
-use Rattle.statistics.specs.Header.{Header, headerAt}
-use Rattle.statistics.specs.Statistics.{File, entry0At, entry3At, forwardAt, backwardAt, entriesAt, fileAt}
+use Rattle.statistics.specs.Statistics.{File, entry0At, entry3At, forwardAt, entriesAt, fileAt}
 use Rattle.given.specs.Canonical.{headerBytes, contentsBytes, validationBytes, statisticsBytes}
 use Rattle.given.proofs.Records.{Every, stands-whole}
 use Rattle.given.proofs.Columns.{bares, Kinded}

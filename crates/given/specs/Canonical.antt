@@ -20,9 +20,13 @@ letters (suc n) = 97 ∷ letters n
 abbrev pub kindOf : Column → Kind
 kindOf c = record { line = c .line; reversed = c .reversed }
 
--- a column of the header: its type; for static and regular behind its name, of i letters
+-- how many letters the name of the i-th column has: no two names are equal
+abbrev pub lettersOf : ℕ → ℕ
+lettersOf i = i
+
+-- the i-th column of the header: its type; for static and regular behind its name
 unfoldable pub columnBytes : ℕ → Column → List ℕ
-columnBytes i c = pick (ltb (c .role) 2) (typeBytes (kindOf c)) (shortest i ++ (letters i ++ typeBytes (kindOf c)))
+columnBytes i c = pick (ltb (c .role) 2) (typeBytes (kindOf c)) (shortest (lettersOf i) ++ (letters (lettersOf i) ++ typeBytes (kindOf c)))
 
 -- columns from the i-th on
 unfoldable pub columnsBytes : ℕ → List Column → List ℕ

@@ -22,15 +22,15 @@ counts k m r = record { keys = 1; clustering = k; statics = m; regulars = r }
 abbrev pub countsOf : Sizes → Counts
 countsOf z = counts (z .clustering) (z .statics) (z .regulars)
 
--- whether byte i of a schema, in a record of the role, is one of a name's place: its offset and length, the bytes 4 to 11 of the
--- record of a static or regular column
+-- whether byte i of a record of the role, 0 to 15, is one of a name's place: offset and length are the bytes 4 to 11, and only
+-- static and regular columns have a name
 abbrev pub ofPlace : ℕ → ℕ → Bool
-ofPlace role i = pick (ltb role 2) false (pick (ltb (i % 16) 4) false (ltb (i % 16) 12))
+ofPlace role i = pick (ltb role 2) false (pick (ltb i 4) false (ltb i 12))
 
 -- the schemas v and w are equal but for the places of names
 pub record Alike (v w : List ℕ) : Type 0 where
   pub lengths : length v ≡ length w
-  pub bytes : (i : ℕ) → i < length v → ofPlace (roleAt v (16 * (i / 16))) i ≡ false → getD v i 0 ≡ getD w i 0
+  pub bytes : (i : ℕ) → i < length v → ofPlace (roleAt v (16 * (i / 16))) (i % 16) ≡ false → getD v i 0 ≡ getD w i 0
 
 -- a Statistics, at most 2^30 bytes, that is read and gives the schema v but for the places of names; c counts its columns
 pub record Source (v : List ℕ) (c : Counts) : Type 0 where
