@@ -1,0 +1,17 @@
+use Rattle.wire.proofs.Choose.{cases}
+use Rattle.walk.proofs.Said.{answers, handed-as}
+use Rattle.walk.specs.Steps.{badBases}
+use borrow.Author.Needs.{needs}
+use Rattle.walk.proofs.steps.is_bad_bases.Statement.{statement}
+use Rattle.walk.proofs.steps.is_bad_bases.Tie as tie
+
+returns : tie.Need-returns
+unfolding badBases
+returns c = search (answers, cases) depth 12
+
+returns-2 : tie.Need-returns-2
+unfolding badBases
+returns-2 c = search (answers, cases) depth 12
+
+pub is-bad-bases-spec : {M : Type 1} → statement M
+is-bad-bases-spec = tie.close (tie.spec returns returns-2)

@@ -1,0 +1,4 @@
+pub mod Items
+pub mod Cursors
+pub mod Steps
+pub mod Walks
