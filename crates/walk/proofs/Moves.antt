@@ -27,13 +27,13 @@ use Rattle.partition.specs.Partitions.{partitionAt, deletedAt, deletedBy}
 use Rattle.schema.specs.declared.records.Counts.{Counts}
 use Rattle.walk.specs.Cursors.{badValues, badPrefix, badCells, atItems, atCells, behindValue, behindCell, behindMarker, behindRow}
 use Rattle.walk.specs.Steps.{Handed, Answer, handed, partitionStep, endStep, markerStep, rowHanded, rowStep, itemStep, valueStep, cellStep, cellsStep, partitionAnswer, itemAnswer, valuesAnswer, prefixAnswer, cellsAnswer, staticsAnswer, stepIn}
+use Rattle.walk.specs.Tables.{Table}
 use Rattle.walk.specs.Walks.{reachIn, leftIn, remaining, follow, add, walkIn, walkFrom}
 use Rattle.walk.specs.declared.items.Item.{Item}
 use Rattle.walk.specs.declared.cursors.Phase.{Phase}
 use Rattle.walk.specs.declared.cursors.Phase.the-variants.{Partition, First, Items, Values, Prefix, Statics, Cells}
 use Rattle.walk.specs.declared.cursors.Cursor.{Cursor}
 use Rattle.walk.proofs.Bounds.{values-below, prefix-below, cells-column}
-use Rattle.walk.proofs.Schemas.{Table}
 
 -- the cursor y has come further than at, and not past Data's end
 pub record Further (s : List ℕ) (at : ℕ) (y : Cursor) : Type 0 where
