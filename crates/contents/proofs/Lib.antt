@@ -1,0 +1,2 @@
+-- Document 01's file, read as a whole (Vectors).
+pub mod Vectors
