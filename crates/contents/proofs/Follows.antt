@@ -82,6 +82,11 @@ module _ {A : Type 0} where
   adds-run l (got a n) g = refl
   adds-run l (bad f p) g = refl
 
+  pub add-run : (i : Item) (x : Got A) (g : A → ℕ → Walked) → add i (run x g) ≡ run x (λ a n. add i (g a n))
+  unfolding run add
+  add-run i (got a n) g = refl
+  add-run i (bad f p) g = refl
+
 pub run-on : {A B : Type 0} (x : Got A) (k : A → ℕ → Got B) (g : B → ℕ → Walked) → run (on x k) g ≡ run x (λ a n. run (k a n) g)
 unfolding run on
 run-on (got a n) k g = refl
