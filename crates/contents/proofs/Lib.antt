@@ -1,7 +1,10 @@
--- What follows a reading (Follows), the ranges of what is read (Gives), the walk in the clustering values of a row or marker (Values) and in
--- a row's cells (Cells), and document 01's file, read as a whole (Vectors).
+-- What follows a reading (Follows), the ranges of what is read (Gives), the walk in the clustering values of a row or marker (Values), in
+-- a row's cells (Cells), in a row (Rows), a marker (Markers), a partition's entries (Entries), and document 01's file, read as a whole (Vectors).
 pub mod Follows
 pub mod Gives
 pub mod Values
 pub mod Cells
+pub mod Rows
+pub mod Markers
+pub mod Entries
 pub mod Vectors

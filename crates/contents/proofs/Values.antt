@@ -49,9 +49,10 @@ module _ (c s : List ℕ) (h : ℕ) (a j at end : ℕ) (vs : List Span) (n : ℕ
   unfolding valuesAt widthsAt
   values-parted e = parted _ _ vs n e
 
-values-one : (c s : List ℕ) (a h at end : ℕ) → valuesAt (widthsAt c a 0) h s at end ≡ got [] at
+-- no column
+pub values-none : (c s : List ℕ) (a h at end : ℕ) → valuesAt (widthsAt c a 0) h s at end ≡ got [] at
 unfolding valuesAt widthsAt
-values-one c s a h at end = refl
+values-none c s a h at end = refl
 
 on-got : {A B : Type 0} (x : Got A) (k : A → ℕ → Got B) (a : A) (n : ℕ) → x ≡ got a n → on x k ≡ k a n
 unfolding on
@@ -97,7 +98,7 @@ module _ (c s : List ℕ) (k : Counts) (b : Bases) (w : Cursor → Walked) (turn
       last-walk : i + 1 ≡ count → valuesAt (widthsAt c a 1) h s p (length s) ≡ got vs n → w (state i p) ≡ adds (valuesListed i vs) (w last)
       last-walk u d =
           let x = values-parted c s h a 0 p (length s) vs n d in
-          let y : got (x .value ∷ []) (x .place) ≡ got vs n = sym (on-got _ _ _ _ (values-one c s (a + 16) (h / 4) (x .place) (length s))) ∙ x .rest in
+          let y : got (x .value ∷ []) (x .place) ≡ got vs n = sym (on-got _ _ _ _ (values-none c s (a + 16) (h / 4) (x .place) (length s))) ∙ x .rest in
           let z : x .value ∷ [] ≡ vs = cc in
           first-walk 0 (omega arith) d
           ∙ ap (λ q. add (valueItem i (x .value)) (w q)) (behind-last i p (x .place) u)
