@@ -13,12 +13,13 @@ use Rattle.wire.specs.Choose.{pick, bind}
 use Rattle.wire.specs.Got.{Got, got, bad, on}
 use Rattle.wire.proofs.Gives.{Gives, gives-got, gives-bad, gives-on, gives-pick, gives-bind}
 use Rattle.wire.specs.declared.times.Bases.{Bases}
-use Rattle.cell.specs.Fields.{byteAt}
+use Rattle.wire.specs.Times.{biased}
+use Rattle.cell.specs.Fields.{live, byteAt}
 use Rattle.cell.specs.declared.fields.Deletion.{Deletion}
 use Rattle.cell.specs.declared.fields.Span.{Span}
 use Rattle.cell.specs.declared.cells.Times.{Times}
 use Rattle.cell.specs.declared.cells.Cell.{Cell}
-use Rattle.cell.proofs.Ranges.{Goes, Moves, goes-none, goes-goes, moves-on, moves-goes, byte-gives}
+use Rattle.cell.proofs.Ranges.{Goes, Moves, goes-none, goes-goes, moves-on, moves-goes, moves-moves, fixed-moves, byte-gives}
 use Rattle.cell.proofs.Gives.{CellOk, cell-gives}
 use Rattle.clustering.specs.Prefixes.{valuesAt}
 use Rattle.clustering.proofs.Gives.{ValuesIn, values-give}
@@ -29,7 +30,8 @@ use Rattle.row.specs.declared.rows.Row.{Row}
 use Rattle.row.proofs.Gives.{RestOk, RowOk, row-gives}
 use Rattle.marker.specs.declared.markers.Marker.{Marker}
 use Rattle.marker.proofs.Gives.{MarkerOk, marker-gives}
-use Rattle.contents.specs.Contents.{Widths, Entry, staticEntry, rowEntry, markerEntry, openBehind, cellsAt, bodyCellsAt, rowEntryAt, markerEntryAt, entryAt, closedAt, entriesIn}
+use Rattle.partition.specs.Partitions.{deletedBy, deletedAt, partitionAt}
+use Rattle.contents.specs.Contents.{Widths, Entry, staticEntry, rowEntry, markerEntry, Contents, openBehind, cellsAt, bodyCellsAt, rowEntryAt, markerEntryAt, entryAt, closedAt, entriesIn, entriesAt, wholeAt, partitionsIn, contentsAt}
 
 -- ---- cells
 -- the cells of the columns whose widths are ws, those that are there as they are read
@@ -218,3 +220,70 @@ entries-give (suc j) t b first opened s at end =
     gives-on _ (entries-give j t b 0 (openBehind opened x) s m end) (λ es p k.
     let o : at ≤ p = omega (arith, entry-moves t b s at end opened x m h .past, k .1 .on) in
     gives-got _ _ ((m, (h, k .0)), record { on = o; byte = k .1 .byte; within = k .1 .within; inside = k .1 .inside })))))
+
+-- ---- partitions
+module _ (s : List ℕ) (end : ℕ) where
+  deleted-moves : (at : ℕ) → Gives (deletedAt s at end) (λ d n. Moves s at end n)
+  unfolding deletedAt deletedBy
+  deleted-moves at =
+      gives-on _ (fixed-moves s at end 4 (omega arith)) (λ x p g.
+      gives-pick (ltb 2147483647 x) (λ e. gives-bad _ _) (λ e.
+      gives-on _ (fixed-moves s p end 8 (omega arith)) (λ y n h.
+      gives-bind _ _
+      (gives-pick (eqb x 2147483647)
+      (λ d. gives-pick (eqb (biased y) 0) (λ f. gives-got _ _ (moves-moves g h)) (λ f. gives-bad _ _))
+      (λ d. gives-pick (eqb (biased y) 0) (λ f. gives-bad _ _) (λ f. gives-got _ _ (moves-moves g h)))))))
+
+  -- whatever the bytes are
+  pub partition-moves : (at : ℕ) → Gives (partitionAt s at end) (λ h n. Moves s at end n)
+  unfolding partitionAt
+  partition-moves at =
+      gives-on _ (fixed-moves s at end 2 (omega arith)) (λ len m g.
+      gives-pick (ltb (end - m) len) (λ e. gives-bad _ _) (λ e.
+      gives-on _ (deleted-moves (m + len)) (λ d n h.
+      gives-bind _ _ (gives-got _ _ (record { past = omega (arith, g .past, h .past); within = h .within; inside = g .inside })))))
+
+-- a partition, whole, whose header ends at first
+pub record ContentsIn (t : Widths) (b : Bases) (s : List ℕ) (at end : ℕ) (x : Contents) (n : ℕ) : Type 0 where
+  pub first : ℕ
+  pub header : partitionAt s at end ≡ got (x .header) first
+  pub entries : EntriesIn t b s end live first (x .entries) (x .end)
+  pub ended : Ended s at end (x .end)
+  pub next : n ≡ x .end + 1
+
+pub whole-gives : (t : Widths) (b : Bases) (s : List ℕ) (at end : ℕ) → Gives (wholeAt t b s at end) (ContentsIn t b s at end)
+unfolding wholeAt entriesAt
+whole-gives t b s at end =
+    gives-on _ (itself (partitionAt s at end)) (λ h m d.
+    gives-on _ (entries-give (end - m) t b 1 live s m end) (λ es p g.
+    gives-got _ _ (record {
+      first = m;
+      header = d;
+      entries = g .0;
+      ended = record { on = omega (arith, partition-moves s end at .given h m d .past, g .1 .on); byte = g .1 .byte; within = g .1 .within; inside = g .1 .inside };
+      next = refl;
+    })))
+  where
+    itself : {A : Type 0} (x : Got A) → Gives x (λ a n. x ≡ got a n)
+    itself x = record { given = λ a n e. e }
+
+-- partitions from at up to the end
+abbrev pub AllIn : Widths → Bases → List ℕ → ℕ → ℕ → List Contents → Type 0
+AllIn t b s end at [] = at ≡ end
+AllIn t b s end at (x ∷ xs) = (m : ℕ) × (ContentsIn t b s at end x m × AllIn t b s end m xs)
+
+pub partitions-give : (j : ℕ) (t : Widths) (b : Bases) (s : List ℕ) (at end : ℕ) → end - at ≤ j → at ≤ end → Gives (partitionsIn j t b s at end) (λ xs n. AllIn t b s end at xs × (n ≡ end))
+unfolding partitionsIn
+partitions-give zero t b s at end l h = gives-got _ _ (omega arith, omega arith)
+partitions-give (suc j) t b s at end l h =
+    gives-pick (eqb at end) (λ e. gives-got _ _ (eqb-true at end e, eqb-true at end e)) (λ e.
+    gives-on _ (whole-gives t b s at end) (λ x m g.
+    let u : m ≤ end = omega (arith, g .next, g .ended .within) in
+    let v : at < m = omega (arith, g .next, g .ended .on) in
+    gives-on _ (partitions-give j t b s m end (omega arith) u) (λ xs n k.
+    gives-got _ _ ((m, (g, k .0)), k .1))))
+
+-- all that Data holds
+pub contents-give : (t : Widths) (b : Bases) (s : List ℕ) (at end : ℕ) → at ≤ end → Gives (contentsAt t b s at end) (λ xs n. AllIn t b s end at xs × (n ≡ end))
+unfolding contentsAt
+contents-give t b s at end h = partitions-give (end - at) t b s at end (omega arith) h
