@@ -7,9 +7,9 @@ use mathlib.Core.Option.{Option, none, some}
 use Prim.Native.Nat.{ℕ, zero, suc, _+_, _-_, _*_, _/_, _%_, _^_, _≤_, _<_}
 use native.Mathlib.Omega.{arith}
 use native.Mathlib.Nat.{pow-suc}
-use borrow.Author.Tests.{ltb-false, le-ltb, eqb-true, eqb-false, eq-eqb, ne-eqb}
+use borrow.Author.Tests.{le-ltb, eqb-true, eqb-false, eq-eqb, ne-eqb}
 use lib.Count.{trailingZeros, under}
-use lib.Dec.{ltb, leb, eqb}
+use lib.Dec.{ltb, eqb}
 use lib.ListN.{length, getD}
 use lib.Pow.{shr-shr, shr-lt, shr-le, pow-lt, pow-pos}
 use Rattle.wire.specs.Choose.{pick, bind}
@@ -29,12 +29,12 @@ use Rattle.row.specs.Bodies.{columns}
 use Rattle.schema.specs.declared.records.Counts.{Counts}
 use Rattle.walk.specs.Items.{cellItem}
 use Rattle.walk.specs.Cursors.{hand, cursor, outside, badCells, behindCell}
-use Rattle.walk.specs.Steps.{Handed, Answer, badState, stepIn, handed, itemStep, cellStep, cellsStep, cellsAnswer}
+use Rattle.walk.specs.Steps.{Handed, badState, stepIn, handed, itemStep, cellStep, cellsStep, cellsAnswer}
 use Rattle.walk.specs.Walks.{add, follow}
 use Rattle.walk.specs.declared.cursors.Phase.{Phase}
 use Rattle.walk.specs.declared.cursors.Cursor.{Cursor}
 use Rattle.contents.specs.Contents.{cellsAt, cellsListed}
-use Rattle.contents.proofs.Follows.{Walked, adds, run, adds-none, add-adds, run-got, run-bad, run-pick, run-same, add-run, run-on, run-handed}
+use Rattle.contents.proofs.Follows.{Walked, adds, run, adds-none, add-adds, run-got, run-same, add-run, run-on, run-handed}
 
 -- ---- the lowest digit that is 1
 -- one more place to look at does not change it

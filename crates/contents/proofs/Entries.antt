@@ -1,52 +1,32 @@
 -- The walk through a partition's rows and markers lists the entries that are read. Assumes nothing.
 use mathlib.Core.Path.{_≡_, refl, sym, ap, _∙_}
 use mathlib.Core.Bool.{Bool, true, false}
-use mathlib.Core.List.{List, [], _∷_, _++_}
-use mathlib.Core.Logic.{_⊎_, inl, inr}
-use mathlib.Core.Option.{Option}
-use Prim.Native.Nat.{ℕ, zero, suc, _+_, _-_, _*_, _/_, _^_, _≤_, _<_}
+use mathlib.Core.List.{List, [], _∷_}
+use Prim.Native.Nat.{ℕ, zero, suc, _+_, _-_, _≤_}
 use native.Mathlib.Omega.{arith}
-use borrow.Author.Tests.{le-ltb, le-leb, lt-leb, eqb-true, eqb-false, eq-eqb, ne-eqb}
+use borrow.Author.Tests.{le-ltb, le-leb}
 use lib.Dec.{ltb, leb, eqb}
-use lib.ListN.{length, getD, take}
+use lib.ListN.{length}
 use Rattle.wire.specs.Choose.{pick, bind}
 use Rattle.wire.specs.Got.{Got, got, bad, on}
 use Rattle.wire.specs.Refusals.{refused}
-use Rattle.wire.proofs.Choose.{pick-yes, pick-no}
 use Rattle.wire.proofs.Gives.{Gives, gives-got, gives-bad, gives-pick}
-use Rattle.wire.specs.declared.refusal.Fault.the-variants.{PastEnd, LeftOver, OutOfTurn}
+use Rattle.wire.specs.declared.refusal.Fault.the-variants.{PastEnd, OutOfTurn}
 use Rattle.wire.specs.declared.refusal.Slice.the-variants.{Data}
 use Rattle.wire.specs.declared.times.Bases.{Bases}
 use Rattle.cell.specs.Fields.{byteAt, live}
 use Rattle.cell.specs.declared.fields.Deletion.{Deletion}
-use Rattle.cell.specs.declared.fields.Span.{Span}
-use Rattle.cell.specs.declared.cells.Times.{Times}
-use Rattle.cell.specs.declared.cells.Cell.{Cell}
-use Rattle.clustering.specs.Prefixes.{badHeader, valuesAt, widthsAt}
-use Rattle.clustering.proofs.Gives.{PrefixOk}
-use Rattle.row.specs.Bodies.{times, columns}
-use Rattle.row.specs.Rows.{rowAt}
-use Rattle.row.specs.declared.bodies.Body.{Body}
-use Rattle.row.specs.declared.rows.Row.{Row}
-use Rattle.row.proofs.Gives.{RestOk, RowOk, row-gives}
-use Rattle.marker.specs.Markers.{markerAt, openAfter}
-use Rattle.marker.specs.declared.markers.Marker.{Marker}
-use Rattle.marker.proofs.Gives.{MarkerOk, marker-gives}
 use Rattle.schema.specs.declared.records.Counts.{Counts}
-use Rattle.walk.specs.Items.{rowItem, markerItem, endItem}
-use Rattle.walk.specs.Cursors.{hand, cursor, outside, badColumn, badValues, badPrefix, atItems, atCells, behindMarker, behindRow}
-use Rattle.walk.specs.Cursors.{none as nothing}
-use Rattle.walk.specs.Steps.{Handed, Answer, badState, stepIn, handed, hands, endStep, markerStep, rowHanded, rowStep, itemStep, valueStep, itemAnswer, valuesAnswer, prefixAnswer, staticsAnswer, cellsAnswer}
-use Rattle.walk.specs.Walks.{add, follow}
-use Rattle.walk.specs.declared.items.Item.{Item}
-use Rattle.walk.specs.declared.cursors.Phase.{Phase}
-use Rattle.walk.specs.declared.cursors.Phase.the-variants.{Partition, First, Items, Values, Prefix, Statics, Cells}
+use Rattle.walk.specs.Items.{endItem}
+use Rattle.walk.specs.Cursors.{atItems}
+use Rattle.walk.specs.Steps.{stepIn, endStep, markerStep, rowStep, itemStep}
+use Rattle.walk.specs.Walks.{follow}
+use Rattle.walk.specs.declared.cursors.Phase.the-variants.{Partition}
 use Rattle.walk.specs.declared.cursors.Cursor.{Cursor}
-use Rattle.walk.proofs.Schemas.{Table}
-use Rattle.contents.specs.Contents.{Widths, widthsOf, Entry, staticEntry, rowEntry, markerEntry, openBehind, cellsAt, bodyCellsAt, rowEntryAt, markerEntryAt, entryAt, closedAt, entriesIn, valuesListed, cellsListed, entryListed, entriesListed}
-use Rattle.contents.proofs.Follows.{Walked, adds, run, adds-none, add-adds, add-one, adds-adds, adds-pick, run-got, run-bad, run-pick, run-same, adds-run, add-run, run-on, run-handed}
-use Rattle.contents.proofs.Gives.{RowPlaced, row-placed, static-stands, entry-gives, entry-moves}
-use Rattle.contents.proofs.Values.{widths-length, widths-take, values-none, values-walk}
+use Rattle.walk.specs.Tables.{Table}
+use Rattle.contents.specs.Contents.{widthsOf, Entry, openBehind, rowEntryAt, markerEntryAt, entryAt, closedAt, entriesIn, entryListed, entriesListed}
+use Rattle.contents.proofs.Follows.{Walked, adds, run, add-one, adds-adds, run-bad, run-pick, run-same, adds-run, run-on, run-handed}
+use Rattle.contents.proofs.Gives.{entry-gives, entry-moves}
 use Rattle.contents.proofs.Rows.{itemFrom, next, behindEntry, row-walk}
 use Rattle.contents.proofs.Markers.{marker-walk}
 

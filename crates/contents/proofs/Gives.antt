@@ -9,26 +9,23 @@ use native.Mathlib.Omega.{arith}
 use borrow.Author.Tests.{ltb-true, ltb-false, eqb-true, eqb-false}
 use lib.Dec.{ltb, eqb}
 use lib.ListN.{length, getD, take}
-use Rattle.wire.specs.Choose.{pick, bind}
-use Rattle.wire.specs.Got.{Got, got, bad, on}
+use Rattle.wire.specs.Choose.{pick}
+use Rattle.wire.specs.Got.{Got, got, on}
 use Rattle.wire.proofs.Gives.{Gives, gives-got, gives-bad, gives-on, gives-pick, gives-bind}
 use Rattle.wire.specs.declared.times.Bases.{Bases}
 use Rattle.wire.specs.Times.{biased}
 use Rattle.cell.specs.Fields.{live, byteAt}
 use Rattle.cell.specs.declared.fields.Deletion.{Deletion}
-use Rattle.cell.specs.declared.fields.Span.{Span}
 use Rattle.cell.specs.declared.cells.Times.{Times}
 use Rattle.cell.specs.declared.cells.Cell.{Cell}
-use Rattle.cell.proofs.Ranges.{Goes, Moves, goes-none, goes-goes, moves-on, moves-goes, moves-moves, fixed-moves, byte-gives}
+use Rattle.cell.proofs.Ranges.{Goes, Moves, goes-none, goes-goes, moves-on, moves-moves, fixed-moves, byte-gives}
 use Rattle.cell.proofs.Gives.{CellOk, cell-gives}
-use Rattle.clustering.specs.Prefixes.{valuesAt}
 use Rattle.clustering.proofs.Gives.{ValuesIn, values-give}
 use Rattle.row.specs.Flags.{mayStand, extendedOf, extendedAt}
 use Rattle.row.specs.Rows.{restAt, rowAt}
 use Rattle.row.specs.declared.bodies.Body.{Body}
 use Rattle.row.specs.declared.rows.Row.{Row}
 use Rattle.row.proofs.Gives.{RestOk, RowOk, row-gives}
-use Rattle.marker.specs.declared.markers.Marker.{Marker}
 use Rattle.marker.proofs.Gives.{MarkerOk, marker-gives}
 use Rattle.partition.specs.Partitions.{deletedBy, deletedAt, partitionAt}
 use Rattle.contents.specs.Contents.{Widths, Entry, staticEntry, rowEntry, markerEntry, Contents, openBehind, cellsAt, bodyCellsAt, rowEntryAt, markerEntryAt, entryAt, closedAt, entriesIn, entriesAt, wholeAt, partitionsIn, contentsAt}

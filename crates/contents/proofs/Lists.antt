@@ -1,11 +1,11 @@
 -- Walking by steps lists exactly what is read of Data as a whole, refusals too. Assumes nothing.
 use mathlib.Core.Path.{_≡_, refl, sym, ap, _∙_}
 use mathlib.Core.Bool.{Bool, true, false}
-use mathlib.Core.List.{List, [], _∷_, _++_}
+use mathlib.Core.List.{List, [], _∷_}
 use Prim.Native.Nat.{ℕ, zero, suc, _+_, _-_, _≤_, _<_}
 use native.Mathlib.Omega.{arith}
-use borrow.Author.Tests.{le-ltb, eqb-true, eqb-false, eq-eqb}
-use lib.Dec.{ltb, eqb}
+use borrow.Author.Tests.{le-ltb, eqb-true, eq-eqb}
+use lib.Dec.{eqb}
 use lib.ListN.{length}
 use Rattle.wire.specs.Choose.{pick, bind}
 use Rattle.wire.specs.Got.{Got, got, bad, on}
@@ -18,15 +18,16 @@ use Rattle.partition.specs.declared.partitions.Partition.{Partition as Header}
 use Rattle.schema.specs.declared.records.Counts.{Counts}
 use Rattle.walk.specs.Items.{partitionItem}
 use Rattle.walk.specs.Cursors.{atItems}
-use Rattle.walk.specs.Steps.{Handed, badState, done, stepIn, handed, partitionStep, partitionAnswer}
+use Rattle.walk.specs.Steps.{stepIn, handed, partitionStep, partitionAnswer}
 use Rattle.walk.specs.Walks.{start, add, follow, walkFrom}
 use Rattle.walk.specs.declared.cursors.Phase.the-variants.{Partition, First}
 use Rattle.walk.specs.declared.cursors.Cursor.{Cursor}
-use Rattle.walk.proofs.Schemas.{Table}
-use Rattle.contents.specs.Contents.{Widths, widthsOf, Entry, Contents, entriesIn, entriesAt, wholeAt, partitionsIn, contentsAt, entriesListed, partitionListed, listed, listing, contentsOf}
-use Rattle.contents.proofs.Follows.{Walked, adds, run, add-adds, adds-adds, run-got, run-same, adds-run, add-run, run-on, run-handed}
+use Rattle.walk.specs.Tables.{Table}
+use Rattle.walk.proofs.Moves.{walk-unfolds}
+use Rattle.contents.specs.Contents.{Widths, widthsOf, Entry, Contents, entriesIn, entriesAt, wholeAt, partitionsIn, contentsAt, entriesListed, listed, listing, contentsOf}
+use Rattle.contents.proofs.Follows.{Walked, adds, run, add-adds, run-got, run-same, adds-run, add-run, run-on, run-handed}
 use Rattle.contents.proofs.Gives.{entries-give, partition-moves}
-use Rattle.contents.proofs.Rows.{next, first-turn}
+use Rattle.contents.proofs.Rows.{first-turn}
 use Rattle.contents.proofs.Entries.{behindEntries, entries-walk}
 
 listing-run : (x : Got (List Contents)) → listing x ≡ run x (λ ps n. taken (listed ps))
@@ -109,3 +110,7 @@ module _ (c s : List ℕ) (k : Counts) (b : Bases) (w : Cursor → Walked) (turn
   pub steps-list : w start ≡ contentsOf c k b s
   unfolding start contentsOf contentsAt
   steps-list = partitions-walk (length s - 0) 0 (omega arith) (omega arith) ∙ sym (listing-run _)
+
+-- the walk from the start of Data
+pub walk-lists : (c : List ℕ) (k : Counts) (b : Bases) (s : List ℕ) → Table (length c) k → walkFrom c k b s start ≡ contentsOf c k b s
+walk-lists c k b s t = steps-list c s k b (walkFrom c k b s) (walk-unfolds c k b s t) t

@@ -4,48 +4,41 @@ use mathlib.Core.Bool.{Bool, true, false}
 use mathlib.Core.List.{List, [], _∷_, _++_}
 use mathlib.Core.Logic.{_⊎_, inl, inr}
 use mathlib.Core.Option.{Option}
-use Prim.Native.Nat.{ℕ, zero, suc, _+_, _-_, _*_, _/_, _^_, _≤_, _<_}
+use Prim.Native.Nat.{ℕ, zero, suc, _+_, _-_, _*_, _≤_, _<_}
 use native.Mathlib.Omega.{arith}
-use borrow.Author.Tests.{le-ltb, le-leb, lt-leb, eqb-true, eqb-false, eq-eqb, ne-eqb}
-use lib.Dec.{ltb, leb, eqb}
-use lib.ListN.{length, getD, take}
+use borrow.Author.Tests.{le-ltb, lt-leb, eq-eqb, ne-eqb}
+use lib.Dec.{ltb, eqb}
+use lib.ListN.{length}
 use Rattle.wire.specs.Choose.{pick, bind}
 use Rattle.wire.specs.Got.{Got, got, bad, on}
 use Rattle.wire.specs.Refusals.{refused}
 use Rattle.wire.proofs.Choose.{pick-yes, pick-no}
-use Rattle.wire.specs.declared.refusal.Fault.the-variants.{PastEnd, LeftOver, OutOfTurn}
+use Rattle.wire.specs.declared.refusal.Fault.the-variants.{LeftOver}
 use Rattle.wire.specs.declared.refusal.Slice.the-variants.{Data}
 use Rattle.wire.specs.declared.times.Bases.{Bases}
-use Rattle.cell.specs.Fields.{byteAt, live}
 use Rattle.cell.specs.declared.fields.Deletion.{Deletion}
 use Rattle.cell.specs.declared.fields.Span.{Span}
-use Rattle.cell.specs.declared.cells.Times.{Times}
 use Rattle.cell.specs.declared.cells.Cell.{Cell}
 use Rattle.clustering.specs.Prefixes.{badHeader, valuesAt, widthsAt}
-use Rattle.clustering.proofs.Gives.{PrefixOk}
 use Rattle.row.specs.Bodies.{times, columns}
 use Rattle.row.specs.Rows.{rowAt}
 use Rattle.row.specs.declared.bodies.Body.{Body}
 use Rattle.row.specs.declared.rows.Row.{Row}
 use Rattle.row.proofs.Gives.{RestOk, RowOk, row-gives}
-use Rattle.marker.specs.Markers.{markerAt, openAfter}
-use Rattle.marker.specs.declared.markers.Marker.{Marker}
-use Rattle.marker.proofs.Gives.{MarkerOk, marker-gives}
 use Rattle.schema.specs.declared.records.Counts.{Counts}
-use Rattle.walk.specs.Items.{rowItem, markerItem, endItem}
-use Rattle.walk.specs.Cursors.{hand, cursor, outside, badColumn, badValues, badPrefix, atItems, atCells, behindMarker, behindRow}
-use Rattle.walk.specs.Cursors.{none as nothing}
-use Rattle.walk.specs.Steps.{Handed, Answer, badState, stepIn, handed, hands, endStep, markerStep, rowHanded, rowStep, itemStep, valueStep, itemAnswer, valuesAnswer, prefixAnswer, staticsAnswer, cellsAnswer}
+use Rattle.walk.specs.Items.{rowItem}
+use Rattle.walk.specs.Cursors.{hand, cursor, outside, badColumn, badValues, atItems, atCells, behindRow}
+use Rattle.walk.specs.Steps.{Handed, badState, stepIn, handed, rowHanded, rowStep, itemStep, valueStep, itemAnswer, valuesAnswer, staticsAnswer, cellsAnswer}
 use Rattle.walk.specs.Walks.{add, follow}
 use Rattle.walk.specs.declared.items.Item.{Item}
 use Rattle.walk.specs.declared.cursors.Phase.{Phase}
-use Rattle.walk.specs.declared.cursors.Phase.the-variants.{Partition, First, Items, Values, Prefix, Statics, Cells}
+use Rattle.walk.specs.declared.cursors.Phase.the-variants.{First, Items, Values, Statics, Cells}
 use Rattle.walk.specs.declared.cursors.Cursor.{Cursor}
-use Rattle.walk.proofs.Schemas.{Table}
-use Rattle.contents.specs.Contents.{Widths, widthsOf, Entry, staticEntry, rowEntry, markerEntry, openBehind, cellsAt, bodyCellsAt, rowEntryAt, markerEntryAt, entryAt, closedAt, entriesIn, valuesListed, cellsListed, entryListed, entriesListed}
-use Rattle.contents.proofs.Follows.{Walked, adds, run, adds-none, add-adds, add-one, adds-adds, adds-pick, run-got, run-bad, run-pick, run-same, adds-run, add-run, run-on, run-handed}
-use Rattle.contents.proofs.Gives.{RowPlaced, row-placed, static-stands, entry-gives, entry-moves}
-use Rattle.contents.proofs.Values.{widths-length, widths-take, values-none, values-walk}
+use Rattle.walk.specs.Tables.{Table}
+use Rattle.contents.specs.Contents.{widthsOf, Entry, staticEntry, rowEntry, openBehind, cellsAt, bodyCellsAt, rowEntryAt, valuesListed, cellsListed, entryListed}
+use Rattle.contents.proofs.Follows.{Walked, adds, run, adds-none, add-adds, adds-adds, adds-pick, run-got, run-same, adds-run, run-on}
+use Rattle.contents.proofs.Gives.{RowPlaced, row-placed, static-stands}
+use Rattle.contents.proofs.Values.{widths-length, values-none, values-walk}
 use Rattle.contents.proofs.Cells.{itemWalk, cells-walk}
 
 -- ---- what a region's filling asks

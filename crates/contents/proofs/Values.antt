@@ -1,15 +1,13 @@
 -- The walk through the clustering values of a row or a marker lists the values that are read. Assumes nothing.
 use mathlib.Core.Path.{_≡_, refl, sym, ap, _∙_}
-use mathlib.Core.Bool.{Bool, true, false}
 use mathlib.Core.List.{List, [], _∷_}
 use Prim.Native.Nat.{ℕ, zero, suc, _+_, _*_, _/_, _^_, _≤_, _<_}
 use native.Mathlib.Omega.{arith}
 use borrow.Author.Tests.{eq-eqb, ne-eqb, lt-leb}
-use lib.Dec.{leb, eqb}
 use lib.ListN.{length, getD, take}
 use lib.Pow.{shr-shr}
 use Rattle.wire.specs.Choose.{pick, bind}
-use Rattle.wire.specs.Got.{Got, got, bad, on}
+use Rattle.wire.specs.Got.{Got, got, on}
 use Rattle.wire.specs.declared.times.Bases.{Bases}
 use Rattle.cell.specs.declared.fields.Deletion.{Deletion}
 use Rattle.cell.specs.declared.fields.Span.{Span}
@@ -24,7 +22,7 @@ use Rattle.walk.specs.Walks.{add, follow}
 use Rattle.walk.specs.declared.cursors.Phase.{Phase}
 use Rattle.walk.specs.declared.cursors.Cursor.{Cursor}
 use Rattle.contents.specs.Contents.{valuesListed}
-use Rattle.contents.proofs.Follows.{Walked, adds, run, adds-none, add-adds, add-one, run-got, run-on, run-handed, Parted, parted}
+use Rattle.contents.proofs.Follows.{Walked, adds, add-adds, add-one, run-got, run-on, run-handed, Parted, parted}
 
 -- ---- widths
 pub widths-length : (c : List ℕ) (a n : ℕ) → length (widthsAt c a n) ≡ n

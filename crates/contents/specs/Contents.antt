@@ -1,15 +1,14 @@
 -- "A partition: .. Then an optional static row, rows and markers, and the byte 01": what Data holds, read as a whole, and the items that
 -- list it. Assumes nothing.
 use Prim.Native.Nat.{ℕ, zero, suc, _+_, _-_, _*_, _/_, _%_}
-use mathlib.Core.Bool.{Bool}
 use mathlib.Core.List.{List, [], _∷_, _++_}
 use mathlib.Core.Option.{Option, none, some}
-use lib.Dec.{ltb, eqb}
+use lib.Dec.{eqb}
 use lib.ListN.{length, take}
 use Rattle.wire.specs.Choose.{pick}
 use Rattle.wire.specs.Got.{Got, got, bad, on, Reader, _>>=_, ret, when, filled}
 use Rattle.wire.specs.Refusals.{Outcome, taken, refused}
-use Rattle.wire.specs.declared.refusal.Fault.the-variants.{PastEnd, LeftOver, OutOfTurn}
+use Rattle.wire.specs.declared.refusal.Fault.the-variants.{PastEnd, OutOfTurn}
 use Rattle.wire.specs.declared.refusal.Slice.the-variants.{Data}
 use Rattle.wire.specs.declared.times.Bases.{Bases}
 use Rattle.cell.specs.Fields.{live, byteAt}
