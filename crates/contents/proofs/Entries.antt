@@ -4,11 +4,10 @@ use mathlib.Core.Bool.{Bool, true, false}
 use mathlib.Core.List.{List, [], _∷_}
 use Prim.Native.Nat.{ℕ, zero, suc, _+_, _-_, _≤_}
 use native.Mathlib.Omega.{arith}
-use borrow.Author.Tests.{le-ltb, le-leb}
 use lib.Dec.{ltb, leb, eqb}
 use lib.ListN.{length}
 use Rattle.wire.specs.Choose.{pick, bind}
-use Rattle.wire.specs.Got.{Got, got, bad, on}
+use Rattle.wire.specs.Got.{Got, got, on}
 use Rattle.wire.specs.Refusals.{refused}
 use Rattle.wire.proofs.Gives.{Gives, gives-got, gives-bad, gives-pick}
 use Rattle.wire.specs.declared.refusal.Fault.the-variants.{PastEnd, OutOfTurn}
@@ -26,14 +25,9 @@ use Rattle.walk.specs.declared.cursors.Cursor.{Cursor}
 use Rattle.walk.specs.Tables.{Table}
 use Rattle.contents.specs.Contents.{widthsOf, Entry, openBehind, rowEntryAt, markerEntryAt, entryAt, closedAt, entriesIn, entryListed, entriesListed}
 use Rattle.contents.proofs.Follows.{Walked, adds, run, add-one, adds-adds, run-bad, run-pick, run-same, adds-run, run-on, run-handed}
-use Rattle.contents.proofs.Gives.{entry-gives, entry-moves}
+use Rattle.contents.proofs.Gives.{byte-none, entry-gives, entry-moves}
 use Rattle.contents.proofs.Rows.{itemFrom, next, behindEntry, row-walk}
 use Rattle.contents.proofs.Markers.{marker-walk}
-
--- no byte is left
-byte-none : (s : List ℕ) (at : ℕ) → length s ≤ at → byteAt s at (length s) ≡ bad PastEnd at
-unfolding byteAt pick
-byte-none s at h = rw (le-ltb (length s) (length s) (omega arith), le-leb (length s) at h)
 
 byte-next : (s : List ℕ) (at end : ℕ) → Gives (byteAt s at end) (λ f n. n ≡ at + 1)
 unfolding byteAt
@@ -97,7 +91,7 @@ module _ (c s : List ℕ) (k : Counts) (b : Bases) (w : Cursor → Walked) (turn
     none-walk l =
         run-handed (itemStep c k b s first opened at) w
         ∙ run-on (byteAt s at (length s)) _ _
-        ∙ run-bad (byteAt s at (length s)) PastEnd at _ (byte-none s at (omega arith))
+        ∙ run-bad (byteAt s at (length s)) PastEnd at _ (byte-none s at (length s) (omega arith))
         ∙ sym (run-bad _ PastEnd at _ refl)
 
   -- from an item of a partition on

@@ -6,16 +6,19 @@ use mathlib.Core.Logic.{_⊎_, inl, inr}
 use mathlib.Core.Option.{Option, none, some}
 use Prim.Native.Nat.{ℕ, zero, suc, _+_, _-_, _/_, _%_, _≤_, _<_}
 use native.Mathlib.Omega.{arith}
-use borrow.Author.Tests.{ltb-true, ltb-false, eqb-true, eqb-false}
+use borrow.Author.Tests.{le-leb, ltb-true, ltb-false, eqb-true, eqb-false}
 use lib.Dec.{ltb, eqb}
 use lib.ListN.{length, getD, take}
 use Rattle.wire.specs.Choose.{pick}
-use Rattle.wire.specs.Got.{Got, got, on}
+use Rattle.wire.specs.Got.{Got, got, bad, on}
+use Rattle.wire.specs.declared.refusal.Fault.the-variants.{PastEnd}
+use Rattle.wire.proofs.Choose.{pick-yes, pick-ind}
 use Rattle.wire.proofs.Gives.{Gives, gives-got, gives-bad, gives-on, gives-pick, gives-bind}
 use Rattle.wire.specs.declared.times.Bases.{Bases}
 use Rattle.wire.specs.Times.{biased}
 use Rattle.cell.specs.Fields.{live, byteAt}
 use Rattle.cell.specs.declared.fields.Deletion.{Deletion}
+use Rattle.cell.specs.declared.fields.Span.{Span}
 use Rattle.cell.specs.declared.cells.Times.{Times}
 use Rattle.cell.specs.declared.cells.Cell.{Cell}
 use Rattle.cell.proofs.Ranges.{Goes, Moves, goes-none, goes-goes, moves-on, moves-moves, fixed-moves, byte-gives}
@@ -27,8 +30,13 @@ use Rattle.row.specs.declared.bodies.Body.{Body}
 use Rattle.row.specs.declared.rows.Row.{Row}
 use Rattle.row.proofs.Gives.{RestOk, RowOk, row-gives}
 use Rattle.marker.proofs.Gives.{MarkerOk, marker-gives}
-use Rattle.partition.specs.Partitions.{deletedBy, deletedAt, partitionAt}
+use Rattle.partition.specs.Partitions.{keyOf, deletedBy, deletedAt, partitionAt}
 use Rattle.contents.specs.Contents.{Widths, Entry, staticEntry, rowEntry, markerEntry, Contents, openBehind, cellsAt, bodyCellsAt, rowEntryAt, markerEntryAt, entryAt, closedAt, entriesIn, entriesAt, wholeAt, partitionsIn, contentsAt}
+
+-- no byte is left
+pub byte-none : (s : List ℕ) (at end : ℕ) → end ≤ at → byteAt s at end ≡ bad PastEnd at
+unfolding byteAt
+byte-none s at end h = pick-ind (λ z. z ≡ bad PastEnd at) _ _ (ltb (length s) end) (λ e. refl) (λ e. sym (pick-yes _ _ _ _ (le-leb end at h) refl))
 
 -- ---- cells
 -- the cells of the columns whose widths are ws, those that are there as they are read
@@ -231,14 +239,19 @@ module _ (s : List ℕ) (end : ℕ) where
       (λ d. gives-pick (eqb (biased y) 0) (λ f. gives-got _ _ (moves-moves g h)) (λ f. gives-bad _ _))
       (λ d. gives-pick (eqb (biased y) 0) (λ f. gives-bad _ _) (λ f. gives-got _ _ (moves-moves g h)))))))
 
+  key-lies : (m len : ℕ) → m + len ≤ end → end ≤ length s → keyOf m len .start + keyOf m len .len ≤ length s
+  unfolding keyOf
+  key-lies m len l h = pick-ind (λ (v : Span). v .start + v .len ≤ length s) _ _ (eqb len 0) (λ e. omega arith) (λ e. omega arith)
+
   -- whatever the bytes are
-  pub partition-moves : (at : ℕ) → Gives (partitionAt s at end) (λ h n. Moves s at end n)
+  pub partition-moves : (at : ℕ) → Gives (partitionAt s at end) (λ h n. Moves s at end n × (h .key .start + h .key .len ≤ length s))
   unfolding partitionAt
   partition-moves at =
       gives-on _ (fixed-moves s at end 2 (omega arith)) (λ len m g.
       gives-pick (ltb (end - m) len) (λ e. gives-bad _ _) (λ e.
+      let l : m + len ≤ end = omega (arith, ltb-false (end - m) len e, g .within) in
       gives-on _ (deleted-moves (m + len)) (λ d n h.
-      gives-bind _ _ (gives-got _ _ (record { past = omega (arith, g .past, h .past); within = h .within; inside = g .inside })))))
+      gives-bind _ _ (gives-got _ _ (record { past = omega (arith, g .past, h .past); within = h .within; inside = g .inside }, key-lies m len l (g .inside))))))
 
 -- a partition, whole, whose header ends at first
 pub record ContentsIn (t : Widths) (b : Bases) (s : List ℕ) (at end : ℕ) (x : Contents) (n : ℕ) : Type 0 where
@@ -257,7 +270,7 @@ whole-gives t b s at end =
       first = m;
       header = d;
       entries = g .0;
-      ended = record { on = omega (arith, partition-moves s end at .given h m d .past, g .1 .on); byte = g .1 .byte; within = g .1 .within; inside = g .1 .inside };
+      ended = record { on = omega (arith, partition-moves s end at .given h m d .0 .past, g .1 .on); byte = g .1 .byte; within = g .1 .within; inside = g .1 .inside };
       next = refl;
     })))
   where

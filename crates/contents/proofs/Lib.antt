@@ -8,5 +8,7 @@ pub mod Cells
 pub mod Rows
 pub mod Markers
 pub mod Entries
+pub mod Unfolds
 pub mod Lists
+pub mod Within
 pub mod Vectors

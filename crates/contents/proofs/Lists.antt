@@ -78,7 +78,7 @@ module _ (c s : List ℕ) (k : Counts) (b : Bases) (w : Cursor → Walked) (turn
             → add (partitionItem h) (w (atItems n First live)) ≡ run (on (entriesAt widths b 1 live s n (length s)) (λ es p. got (whole es p) (p + 1))) (λ x m. run (more x m) all)
         unfolding entriesAt run
         entries-then d =
-            let g = partition-moves s (length s) at .given h n d in
+            let g = partition-moves s (length s) at .given h n d .0 in
             ap (add (partitionItem h)) (first-turn c s k b w turns live n (g .within) ∙ entries-walk c s k b w turns table (length s - n) 1 live n (omega arith))
             ∙ add-run (partitionItem h) (entriesIn (length s - n) widths b 1 live s n (length s)) _
             ∙ run-same (entriesIn (length s - n) widths b 1 live s n (length s)) _ _ (λ es p e.
