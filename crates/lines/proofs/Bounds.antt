@@ -91,6 +91,10 @@ module _ (i : Item) (h₀ : Fits w64 (i .kind)) (h₁ : Fits w64 (i .flags)) (h�
     pub puts-line : (d₁ d₂ : List ℕ) (m n : ℕ) → Puts d d₁ at (pairOf (i .kind) (i .flags)) m → Puts d₁ d₂ m (moreOf i) n → Puts d d₂ at (lineOf i) n
     puts-line d₁ d₂ m n p q = rw (line-parts i) (puts-then d d₁ d₂ at m n _ _ parts p q)
 
+  pub ends-by : (d d₁ d₂ : List ℕ) (at m n : ℕ) → Puts d d₁ at (pairOf (i .kind) (i .flags)) m → Puts d₁ d₂ m (moreOf i) n → n ≤ at + 252
+  ends-by d d₁ d₂ at m n p q =
+      omega (arith, p .next, q .next, line-most, ap length (line-parts i), length-append (pairOf (i .kind) (i .flags)) (moreOf i))
+
 -- ---- a refusal's line
 refusal-parts : (f : Fault) (z : Slice) (p : ℕ) → refusalLine f z p ≡ wordsOf (faultNumber f) ++ whereOf z p
 unfolding refusalLine wordsOf whereOf
@@ -141,3 +145,6 @@ module _ (f : Fault) (z : Slice) (p : ℕ) (h : Fits w64 p) where
 
     pub puts-refusal : (d₁ d₂ : List ℕ) (m n : ℕ) → Puts d d₁ at (wordsOf v) m → Puts d₁ d₂ m (whereOf z p) n → Puts d d₂ at (refusalLine f z p) n
     puts-refusal d₁ d₂ m n q w = rw (refusal-parts f z p, ← e) (puts-then d d₁ d₂ at m n _ _ both q w)
+
+    pub refusal-ends : (d₁ d₂ : List ℕ) (m n : ℕ) → Puts d d₁ at (wordsOf v) m → Puts d₁ d₂ m (whereOf z p) n → n ≤ at + 252
+    refusal-ends d₁ d₂ m n q w = let x = puts-refusal d₁ d₂ m n q w .next in omega (arith, x, refusal-most)

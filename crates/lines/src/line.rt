@@ -77,6 +77,7 @@ fn put_more(d: &mut [u8], at: usize, i: Item) -> usize
 pub fn put_line(d: &mut [u8], at: usize, i: Item) -> usize
     requires { ⌜ at + 252 ≤ length (now d) ⌝ }
     ensures { λ r. ⌜ Puts (now (d .entry)) (now (d .exit)) at (lineOf i) r ⌝ }
+    ensures { λ r. ⌜ r ≤ at + 252 ⌝ }
 {
     let next = numbers::put_pair(d, at, i.kind, i.flags);
     put_more(d, next, i)

@@ -60,6 +60,7 @@ fn put_where(d: &mut [u8], at: usize, z: Slice, p: usize) -> usize
 pub fn put_refusal(d: &mut [u8], at: usize, r: Refusal) -> usize
     requires { ⌜ at + 252 ≤ length (now d) ⌝ }
     ensures { λ n. ⌜ Puts (now (d .entry)) (now (d .exit)) at (refusalLine (r .fault) (r .slice) (r .place)) n ⌝ }
+    ensures { λ n. ⌜ n ≤ at + 252 ⌝ }
 {
     let fault = r.fault;
     let slice = r.slice;
