@@ -15,7 +15,8 @@ use Rattle.schema.specs.Records.{saidChecked}
 use Rattle.schema.specs.declared.records.Counts.{Counts}
 use Rattle.schema.specs.declared.records.Checked.{Checked}
 use Rattle.schema.specs.declared.records.Checked.the-variants.{Counted, Refused as checked-refused}
-use Rattle.walk.specs.Steps.{Handed, Answer, hands, handed, after, partitionAnswer, itemAnswer, valuesAnswer, prefixAnswer, staticsAnswer, cellsAnswer, stepIn, saidMoved, saidStep}
+use Rattle.walk.specs.Steps.{Handed, Answer, hands, handed, partitionAnswer, itemAnswer, valuesAnswer, prefixAnswer, staticsAnswer, cellsAnswer, stepIn, saidMoved, saidStep}
+use Rattle.walk.specs.Tables.{after}
 use Rattle.walk.specs.declared.items.Item.{Item}
 use Rattle.walk.specs.declared.cursors.Cursor.{Cursor}
 use Rattle.walk.specs.declared.cursors.Phase.{Phase}

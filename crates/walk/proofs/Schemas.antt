@@ -10,11 +10,13 @@ use lib.ListN.{length}
 use Rattle.wire.specs.Choose.{pick, bind}
 use Rattle.wire.specs.Got.{Got, got, bad, on, within}
 use Rattle.wire.specs.Refusals.{Outcome, taken, refused}
-use Rattle.wire.specs.declared.refusal.Fault.the-variants.{OverLimit}
-use Rattle.wire.specs.declared.refusal.Slice.the-variants.{Schema}
+use Rattle.wire.specs.declared.refusal.Fault.the-variants.{OverLimit, OutOfRange}
+use Rattle.wire.specs.declared.refusal.Slice.the-variants.{Schema, Data, Output, Bases as bases-slice}
+use Rattle.wire.specs.declared.times.Bases.{Bases}
 use Rattle.wire.proofs.Gives.{Gives, gives-got, gives-bad, gives-on, gives-pick}
 use Rattle.schema.specs.Records.{roleAt, none, given, isFirst, isPassed, countOf, mostOf, inTurn, withOne, recordAt, recordsAt, schemaAt, schemaOf, anywhere, saidChecked}
 use Rattle.schema.specs.declared.records.Counts.{Counts}
+use Rattle.walk.specs.Tables.{Table, badBases, tableAt}
 use Rattle.schema.specs.declared.records.Checked.{Checked}
 use Rattle.schema.specs.declared.records.Checked.the-variants.{Counted, Refused}
 
@@ -90,13 +92,6 @@ module _ (limit : ℕ) (s : List ℕ) where
       gives-on _ (record-gives c at h) (λ d n g.
       record { given = λ x m e. let z = records-give j d n (g .0) .given x m e in (z .0, (let y = z .1 in let w = g .1 in omega arith)) })
 
--- what is known of the counts of a schema that is not refused
-pub record Table (len : ℕ) (k : Counts) : Type 0 where
-  pub filled : 16 + 16 * (k .clustering + k .statics + k .regulars) ≤ len
-  pub clustering : k .clustering ≤ 32
-  pub statics : k .statics ≤ 63
-  pub regulars : k .regulars ≤ 63
-
 module _ (limit : ℕ) (s : List ℕ) where
   schema-gives : Gives (schemaAt limit s) (λ k n. Table (length s) k)
   unfolding schemaAt
@@ -125,22 +120,56 @@ module _ (limit : ℕ) (s : List ℕ) where
       go false (got a n) d f = let z : a ≡ k = cc in subst (Table (length s)) z (schema-gives .given a n d)
       go false (bad y p) d f = let z : _≡_ {A = ℕ} 0 1 = cc in absurd (omega arith)
 
--- ---- what checking a schema tells of its counts
-told-table : (limit : ℕ) (s : List ℕ) (k : Counts) (r : Checked) → saidChecked r ≡ schemaOf limit s → r ≡ Counted k → Table (length s) k
-unfolding saidChecked
-told-table limit s k r e f = schema-table limit s k (sym e ∙ rw f refl)
+-- ---- what a call that was not refused knows of its table
+module _ (c : List ℕ) (b : Bases) (s : List ℕ) (room : ℕ) (k : Counts) where
+  tested : tableAt c b s room ≡ taken k → (length s ≤ 1073741824) × (schemaOf anywhere c ≡ taken k)
+  unfolding tableAt pick
+  tested e = go (ltb 1073741824 (length c)) (ltb 1073741824 (length s)) (ltb 1073741824 room) (badBases b) refl e
+    where
+      go : (x y z w : Bool) → ltb 1073741824 (length s) ≡ y
+          → pick x (refused OverLimit Schema 0) (pick y (refused OverLimit Data 0) (pick z (refused OverLimit Output 0) (pick w (refused OutOfRange bases-slice 0) (schemaOf anywhere c)))) ≡ taken k
+          → (length s ≤ 1073741824) × (schemaOf anywhere c ≡ taken k)
+      go true y z w d f = let q : _≡_ {A = ℕ} 0 1 = cc in absurd (omega arith)
+      go false true z w d f = let q : _≡_ {A = ℕ} 0 1 = cc in absurd (omega arith)
+      go false false true w d f = let q : _≡_ {A = ℕ} 0 1 = cc in absurd (omega arith)
+      go false false false true d f = let q : _≡_ {A = ℕ} 0 1 = cc in absurd (omega arith)
+      go false false false false d f = (ltb-false _ _ d, f)
 
-module _ (limit : ℕ) (s : List ℕ) (k : Counts) (r : Checked) (e : saidChecked r ≡ schemaOf limit s) (f : r ≡ Counted k) where
-  pub counted-filled : (x y z : ℕ) → x ≡ k .clustering → y ≡ k .statics → z ≡ k .regulars → 16 + 16 * (x + y + z) ≤ length s
-  counted-filled x y z a b d = let t = told-table limit s k r e f in omega arith
+  pub table-taken : tableAt c b s room ≡ taken k → Table (length c) k
+  table-taken e = schema-table anywhere c k (tested e .1)
 
-  pub counted-clustering : (x : ℕ) → x ≡ k .clustering → x ≤ 32
-  counted-clustering x a = let t = told-table limit s k r e f in omega arith
+  module _ (r : Checked) (e : saidChecked r ≡ tableAt c b s room) (f : r ≡ Counted k) where
+    taken-as : tableAt c b s room ≡ taken k
+    unfolding saidChecked
+    taken-as = sym e ∙ rw f refl
 
-  pub counted-statics : (x : ℕ) → x ≡ k .statics → x ≤ 63
-  counted-statics x a = let t = told-table limit s k r e f in omega arith
+    pub told-table : Table (length c) k
+    told-table = table-taken taken-as
 
-  pub counted-regulars : (x : ℕ) → x ≡ k .regulars → x ≤ 63
-  counted-regulars x a = let t = told-table limit s k r e f in omega arith
+    pub told-length : length s ≤ 1073741824
+    told-length = tested taken-as .0
 
-pub ruleset counted = (counted-filled, counted-clustering, counted-statics, counted-regulars)
+-- what that tells of the columns
+module _ (len : ℕ) (k : Counts) (t : Table len k) where
+  pub table-filled : (x y z : ℕ) → x ≡ k .clustering → y ≡ k .statics → z ≡ k .regulars → 16 + 16 * (x + y + z) ≤ len
+  table-filled x y z a b d = omega (arith, t .filled)
+
+  pub table-rows : (x : ℕ) → x ≡ k .clustering → 16 + 16 * x ≤ len
+  table-rows x a = omega (arith, t .filled)
+
+  pub table-statics-in : (base x : ℕ) → base ≡ 16 + 16 * k .clustering → x ≡ k .statics → base + 16 * x ≤ len
+  table-statics-in base x a e = omega (arith, t .filled)
+
+  pub table-regulars-in : (base x : ℕ) → base ≡ 16 + 16 * (k .clustering + k .statics) → x ≡ k .regulars → base + 16 * x ≤ len
+  table-regulars-in base x a e = omega (arith, t .filled)
+
+  pub table-clustering : (x : ℕ) → x ≡ k .clustering → x ≤ 32
+  table-clustering x a = omega (arith, t .clustering)
+
+  pub table-statics : (x : ℕ) → x ≡ k .statics → x ≤ 63
+  table-statics x a = omega (arith, t .statics)
+
+  pub table-regulars : (x : ℕ) → x ≡ k .regulars → x ≤ 63
+  table-regulars x a = omega (arith, t .regulars)
+
+pub ruleset tables = (table-filled, table-rows, table-statics-in, table-regulars-in, table-clustering, table-statics, table-regulars, told-table, told-length, refl)

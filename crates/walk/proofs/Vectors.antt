@@ -28,7 +28,8 @@ use Rattle.schema.specs.Records.{schemaAt, schemaOf}
 use Rattle.schema.specs.declared.records.Counts.{Counts}
 use Rattle.walk.specs.Items.{item, zeroed, markOf, timeOf, partitionFlags, cellFlags, partitionItem, rowItem, valueItem, cellItem, endItem}
 use Rattle.walk.specs.Cursors.{hand, cursor, none, outside, badColumn, badValues, badCells, atItems, atCells, behindValue, behindCell, behindRow}
-use Rattle.walk.specs.Steps.{Answer, badState, done, partitionStep, endStep, rowHanded, rowStep, itemStep, valueStep, cellStep, cellsStep, handed, partitionAnswer, itemAnswer, valuesAnswer, cellsAnswer, staticsAnswer, stepIn, badBases, after, stepAt}
+use Rattle.walk.specs.Steps.{Answer, badState, done, partitionStep, endStep, rowHanded, rowStep, itemStep, valueStep, cellStep, cellsStep, handed, partitionAnswer, itemAnswer, valuesAnswer, cellsAnswer, staticsAnswer, stepIn, stepAt}
+use Rattle.walk.specs.Tables.{badBases, after, tableAt}
 use Rattle.walk.specs.declared.cursors.Phase.the-variants.{Partition, First, Items, Values, Statics, Cells}
 use Rattle.walk.specs.declared.cursors.Cursor.{Cursor}
 
@@ -82,5 +83,5 @@ pub vectors : (step (file 7 (1 ∷ [])) (nothing 0) ≡ taken (some (item 1 0 0 
     × (step (file 7 (1 ∷ [])) (cursor 24 Statics live (hand 0 0 0 24 29 0 row)) ≡ badState)  -- no static columns
     × (stepAt [] base (nothing 0) [] ≡ refused BadRecord Schema 0)
     × (stepAt [] (record { timestamp = 0; local = 2147483648; ttl = 0 }) (nothing 0) [] ≡ refused OutOfRange bases-slice 0)
-unfolding trailingZeros pick bind within varintAt bigEndian fixedAt leading low on byteAt inAt deletionAt variableAt valueAt badFlags flagsAt lastAt expiringAt contentAt timedAt cellAt badHeader headerAt clusteringAt valuesAt skipped prefixAt widthsAt sizesAt badRowFlags rowFlagsAt mayStand extendedOf extendedAt expiryAt livenessAt rowDeletionAt columns presentAt rowContentAt bodyAt restAt rowAt keyOf biased deletedBy deletedAt partitionAt schemaAt schemaOf markOf timeOf partitionFlags cellFlags partitionItem rowItem valueItem cellItem endItem none outside badColumn badValues badCells atItems atCells behindValue behindCell behindRow partitionStep endStep rowHanded rowStep itemStep valueStep cellStep cellsStep handed partitionAnswer itemAnswer valuesAnswer cellsAnswer staticsAnswer stepIn badBases after stepAt
+unfolding trailingZeros pick bind within varintAt bigEndian fixedAt leading low on byteAt inAt deletionAt variableAt valueAt badFlags flagsAt lastAt expiringAt contentAt timedAt cellAt badHeader headerAt clusteringAt valuesAt skipped prefixAt widthsAt sizesAt badRowFlags rowFlagsAt mayStand extendedOf extendedAt expiryAt livenessAt rowDeletionAt columns presentAt rowContentAt bodyAt restAt rowAt keyOf biased deletedBy deletedAt partitionAt schemaAt schemaOf markOf timeOf partitionFlags cellFlags partitionItem rowItem valueItem cellItem endItem none outside badColumn badValues badCells atItems atCells behindValue behindCell behindRow partitionStep endStep rowHanded rowStep itemStep valueStep cellStep cellsStep handed partitionAnswer itemAnswer valuesAnswer cellsAnswer staticsAnswer stepIn badBases after tableAt stepAt
 vectors = (refl, refl, refl, refl, refl, refl, refl, refl, refl, refl, refl, refl, refl, refl, refl, refl)

@@ -1,4 +1,5 @@
 pub mod Items
 pub mod Cursors
+pub mod Tables
 pub mod Steps
 pub mod Walks

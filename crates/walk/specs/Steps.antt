@@ -10,8 +10,8 @@ use lib.Count.{trailingZeros}
 use Rattle.wire.specs.Choose.{pick, bind}
 use Rattle.wire.specs.Got.{Got, got, bad, on}
 use Rattle.wire.specs.Refusals.{Outcome, taken, refused, saidRefusal}
-use Rattle.wire.specs.declared.refusal.Fault.the-variants.{OverLimit, LeftOver, OutOfRange, OutOfTurn, BadRecord}
-use Rattle.wire.specs.declared.refusal.Slice.the-variants.{Data, Schema, Bases as bases-slice, State}
+use Rattle.wire.specs.declared.refusal.Fault.the-variants.{LeftOver, OutOfTurn, BadRecord}
+use Rattle.wire.specs.declared.refusal.Slice.the-variants.{Data, State}
 use Rattle.wire.specs.declared.times.Bases.{Bases}
 use Rattle.cell.specs.Fields.{byteAt, live}
 use Rattle.cell.specs.Cells.{cellAt}
@@ -21,8 +21,8 @@ use Rattle.row.specs.Rows.{rowAt}
 use Rattle.row.specs.declared.rows.Row.{Row}
 use Rattle.marker.specs.Markers.{markerAt}
 use Rattle.partition.specs.Partitions.{partitionAt}
-use Rattle.schema.specs.Records.{schemaOf, anywhere}
 use Rattle.schema.specs.declared.records.Counts.{Counts}
+use Rattle.walk.specs.Tables.{after, tableAt}
 use Rattle.walk.specs.Items.{partitionItem, rowItem, markerItem, valueItem, cellItem, endItem}
 use Rattle.walk.specs.Cursors.{badValues, badPrefix, badCells, atItems, atCells, behindValue, behindCell, behindMarker, behindRow}
 use Rattle.walk.specs.declared.items.Item.{Item}
@@ -158,21 +158,9 @@ stepIn Prefix c k b s x = prefixAnswer c k s x
 stepIn Statics c k b s x = staticsAnswer c k b s x (16 + 16 * k .clustering) (k .statics)
 stepIn Cells c k b s x = cellsAnswer c k b s x (16 + 16 * (k .clustering + k .statics)) (k .regulars)
 
--- "Every call tests 1 first, then 5 for bases": the local deletion time and the TTL
-unfoldable pub badBases : Bases → Bool
-badBases b = pick (ltb 2147483647 (b .local)) true (ltb 2147483647 (b .ttl))
-
-unfoldable pub after : {A B : Type 0} → Outcome A → (A → Outcome B) → Outcome B
-after (taken a) f = f a
-after (refused f z p) g = refused f z p
-
 -- one step: of the cursor x, in a table of the schema c and the bases b, through the Data s
 unfoldable pub stepAt : List ℕ → Bases → Cursor → List ℕ → Answer
-stepAt c b x s =
-    pick (ltb 1073741824 (length c)) (refused OverLimit Schema 0)
-    (pick (ltb 1073741824 (length s)) (refused OverLimit Data 0)
-    (pick (badBases b) (refused OutOfRange bases-slice 0)
-    (after (schemaOf anywhere c) (λ k. stepIn (x .phase) c k b s x))))
+stepAt c b x s = after (tableAt c b s 0) (λ k. stepIn (x .phase) c k b s x)
 
 -- ---- what the code's answers say
 unfoldable pub saidMoved : Moved → Got Handed

@@ -1,4 +1,5 @@
 // The walk through Data: a cursor, and its step.
 pub mod items; // items.rt: what a step hands out
 pub mod cursors; // cursors.rt: the cursor's state, and which states are refused
-pub mod steps; // steps.rt: one step
+pub mod steps;
+pub mod tables; // steps.rt: one step

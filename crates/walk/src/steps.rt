@@ -3,7 +3,8 @@ ghost use mathlib.Core.Path.{_≡_};
 ghost use Prim.Native.Nat.{_+_, _*_, _≤_, _<_};
 ghost use lib.ListN.{length};
 ghost use Rattle.row.specs.Bodies.{columns};
-ghost use Rattle.walk.specs.Steps.{partitionStep, endStep, markerStep, rowHanded, rowStep, itemStep, valueStep, cellStep, cellsStep, handed, partitionAnswer, itemAnswer, valuesAnswer, prefixAnswer, cellsAnswer, staticsAnswer, stepIn, badBases, stepAt, saidMoved, saidStep};
+ghost use Rattle.walk.specs.Steps.{partitionStep, endStep, markerStep, rowHanded, rowStep, itemStep, valueStep, cellStep, cellsStep, handed, partitionAnswer, itemAnswer, valuesAnswer, prefixAnswer, cellsAnswer, staticsAnswer, stepIn, stepAt, saidMoved, saidStep};
+ghost use Rattle.walk.specs.Tables.{Table};
 ghost use Rattle.walk.specs.Walks.{start};
 use crate::cursors;
 use crate::cursors::Cursor;
@@ -11,6 +12,7 @@ use crate::cursors::Hand;
 use crate::cursors::Phase;
 use crate::items;
 use crate::items::Item;
+use crate::tables;
 use cell::cells;
 use cell::cells::Times;
 use cell::fields;
@@ -22,7 +24,6 @@ use marker::markers;
 use partition::partitions;
 use row::rows;
 use row::rows::Row;
-use schema::records;
 use schema::records::Checked;
 use schema::records::Counts;
 use wire::number::Num;
@@ -353,7 +354,7 @@ fn step_statics(c: &[u8], k: Counts, b: Bases, s: &[u8], x: Cursor, base: usize,
 // One step of the cursor x, where the schema c is checked and has the columns k.
 // Internal: for a walk that checks its schema once.
 pub fn step_in(c: &[u8], k: Counts, b: Bases, s: &[u8], x: Cursor) -> Step
-    requires { ⌜ (16 + 16 * (k .clustering + k .statics + k .regulars) ≤ length (now c)) × (k .clustering ≤ 32) × (k .statics ≤ 63) × (k .regulars ≤ 63) ⌝ }
+    requires { ⌜ Table (length (now c)) k ⌝ }
     ensures { λ r. ⌜ saidStep r ≡ stepIn (x .phase) (now (c .entry)) k b (now (s .entry)) x ⌝ }
 {
     let phase = x.phase;
@@ -374,16 +375,6 @@ pub fn step_in(c: &[u8], k: Counts, b: Bases, s: &[u8], x: Cursor) -> Step
     }
 }
 
-// Whether bases handed over are out of range.
-pub fn is_bad_bases(b: Bases) -> bool
-    ensures { λ r. ⌜ r ≡ badBases b ⌝ }
-{
-    if 2147483647 < b.local {
-        return true;
-    }
-    2147483647 < b.ttl
-}
-
 impl Cursor {
     // The cursor at the start of Data.
     pub fn start() -> Cursor
@@ -401,28 +392,7 @@ impl Cursor {
     pub fn step(self, schema: &[u8], bases: Bases, data: &[u8]) -> Step
         ensures { λ r. ⌜ saidStep r ≡ stepAt (now (schema .entry)) bases self (now («data» .entry)) ⌝ }
     {
-        if 1073741824 < schema.len() {
-            return Step::Refused(Refusal {
-                fault: Fault::OverLimit,
-                slice: Slice::Schema,
-                place: 0,
-            });
-        }
-        if 1073741824 < data.len() {
-            return Step::Refused(Refusal {
-                fault: Fault::OverLimit,
-                slice: Slice::Data,
-                place: 0,
-            });
-        }
-        if is_bad_bases(bases) {
-            return Step::Refused(Refusal {
-                fault: Fault::OutOfRange,
-                slice: Slice::Bases,
-                place: 0,
-            });
-        }
-        match records::check(schema) {
+        match tables::check(schema, bases, data, 0) {
             Checked::Counted(counts) => step_in(schema, counts, bases, data, self),
             Checked::Refused(refusal) => Step::Refused(refusal),
         }

@@ -1,3 +1,4 @@
+use Rattle.walk.proofs.Schemas.{tables}
 use Rattle.walk.proofs.Said.{phases}
 use borrow.Author.Needs.{needs}
 use Rattle.walk.proofs.steps.step_in.Statement.{statement}
@@ -7,31 +8,31 @@ enum-told : tie.Need-enum-told
 enum-told c = search needs
 
 step-partition-requires : tie.Need-step-partition-requires
-step-partition-requires c κs = search needs
+step-partition-requires c κs = search (tables, needs)
 
 enum-told-2 : tie.Need-enum-told-2
 enum-told-2 c = search needs
 
 step-item-requires : tie.Need-step-item-requires
-step-item-requires c κs = search needs
+step-item-requires c κs = search (tables, needs)
 
 enum-told-3 : tie.Need-enum-told-3
 enum-told-3 c = search needs
 
 step-item-requires-2 : tie.Need-step-item-requires-2
-step-item-requires-2 c κs = search needs
+step-item-requires-2 c κs = search (tables, needs)
 
 enum-told-4 : tie.Need-enum-told-4
 enum-told-4 c = search needs
 
 step-values-requires : tie.Need-step-values-requires
-step-values-requires c κs = search needs
+step-values-requires c κs = search (tables, needs)
 
 enum-told-5 : tie.Need-enum-told-5
 enum-told-5 c = search needs
 
 step-prefix-requires : tie.Need-step-prefix-requires
-step-prefix-requires c κs = search needs
+step-prefix-requires c κs = search (tables, needs)
 
 enum-told-6 : tie.Need-enum-told-6
 enum-told-6 c = search needs
@@ -43,7 +44,7 @@ add-base : tie.Need-add-base
 add-base c = search needs
 
 step-statics-requires : tie.Need-step-statics-requires
-step-statics-requires c κs = search needs
+step-statics-requires c κs = search (tables, needs)
 
 enum-told-7 : tie.Need-enum-told-7
 enum-told-7 c = search needs
@@ -58,7 +59,7 @@ add-base-3 : tie.Need-add-base-3
 add-base-3 c = search needs
 
 step-cells-requires : tie.Need-step-cells-requires
-step-cells-requires c κs = search needs
+step-cells-requires c κs = search (tables, needs)
 
 returns : tie.Need-returns
 returns c = search phases

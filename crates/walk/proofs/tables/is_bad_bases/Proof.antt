@@ -1,9 +1,9 @@
 use Rattle.wire.proofs.Choose.{cases}
 use Rattle.walk.proofs.Said.{answers, handed-as}
-use Rattle.walk.specs.Steps.{badBases}
+use Rattle.walk.specs.Tables.{badBases}
 use borrow.Author.Needs.{needs}
-use Rattle.walk.proofs.steps.is_bad_bases.Statement.{statement}
-use Rattle.walk.proofs.steps.is_bad_bases.Tie as tie
+use Rattle.walk.proofs.tables.is_bad_bases.Statement.{statement}
+use Rattle.walk.proofs.tables.is_bad_bases.Tie as tie
 
 returns : tie.Need-returns
 unfolding badBases
