@@ -18,14 +18,15 @@ use Rattle.wire.proofs.Splices.{Filling, filling-none, filling-all, filling-fit
 use Rattle.schema.specs.declared.records.Counts.{Counts}
 use Rattle.walk.specs.Cursors.{atItems}
 use Rattle.walk.specs.Steps.{Answer, stepIn, saidStep}
-use Rattle.walk.specs.Walks.{Table, start, remaining, add, follow, walkFrom}
+use Rattle.walk.specs.Tables.{Table, after, tableAt}
+use Rattle.walk.specs.Walks.{start, remaining, add, follow, walkFrom}
 use Rattle.walk.specs.declared.items.Item.{Item}
 use Rattle.walk.specs.declared.cursors.Cursor.{Cursor}
 use Rattle.walk.specs.declared.steps.Step.{Step}
 use Rattle.walk.specs.declared.steps.Step.the-variants.{Next, Done, Refused as step-refused}
 use Rattle.walk.proofs.Moves.{step-moves, walk-unfolds}
 use Rattle.listing.specs.Records.{signedBytes, kindBytes, columnBytes, headBytes, localBytes, timeBytes, secondBytes, placeBytes, tailBytes, recordOf, recordsOf}
-use Rattle.listing.specs.Lists.{counted, recordBytes, saidListed}
+use Rattle.listing.specs.Lists.{listAt, counted, fitted, recordBytes, kept, saidListed, Ready, Lists}
 use Rattle.listing.specs.declared.lists.Listed.{Listed}
 use Rattle.listing.specs.declared.lists.Listed.the-variants.{Records, Refused}
 
@@ -94,3 +95,82 @@ module _ (c : List ℕ) (k : Counts) (b : Bases) (s : List ℕ) (t : Table (leng
   counting-refused q f = rw (walk-refused c k b s t x r e q f) at (h .rest)
 
 pub ruleset counting = (counting-none, counting-fits, counting-more, counting-done, counting-refused, next-less)
+
+-- ---- what a list of items that is not refused tells
+added : (i : Item) (l m : List Item) → add i (taken l) ≡ taken m → m ≡ i ∷ l
+unfolding add
+added i l m e = let q : i ∷ l ≡ m = cc in sym q
+
+not-added : (i : Item) (m : List Item) (f : _) (z : _) (p : ℕ) → add i (refused f z p) ≡ taken m → ⊥
+unfolding add
+not-added i m f z p e = let q : _≡_ {A = ℕ} 0 1 = cc in absurd (omega arith)
+
+none-left : (m : List Item) → taken [] ≡ taken m → m ≡ []
+none-left m e = let q : [] ≡ m = cc in sym q
+
+not-refused : (q : Refusal) (m : List Item) → saidRefusal q ≡ taken m → ⊥
+not-refused q m e = let z : _≡_ {A = ℕ} 0 1 = cc in absurd (omega arith)
+
+-- ---- storing: the records before x stand in d, which was d₀, up to place at
+pub record Listing (c : List ℕ) (k : Counts) (b : Bases) (s d₀ d : List ℕ) (x : Cursor) (at : ℕ) : Type 0 where
+  pub items : List Item
+  pub rest : walkFrom c k b s x ≡ taken items
+  pub fits : length (recordBytes (walkFrom c k b s start)) ≤ length d₀
+  pub filled : Filling (recordBytes (walkFrom c k b s start)) d₀ d at (recordsOf items)
+
+pub listing-none : (c : List ℕ) (k : Counts) (b : Bases) (s d : List ℕ) (x : Cursor) → Ready (walkFrom c k b s start) (length d) → x ≡ start → Listing c k b s d d x 0
+unfolding recordBytes
+listing-none c k b s d x g e = record {
+  items = g .items;
+  rest = rw e (g .are);
+  fits = rw (g .are, length-recordsOf (g .items)) (g .fits);
+  filled = rw (g .are) (filling-none (recordsOf (g .items)) d);
+}
+
+module _ (c : List ℕ) (k : Counts) (b : Bases) (s : List ℕ) (t : Table (length c) k) (x : Cursor) (d₀ d : List ℕ) (at : ℕ) (h : Listing c k b s d₀ d x at) (r : Step)
+    (e : saidStep r ≡ stepIn (x .phase) c k b s x) where
+  -- the items left are the next one and those behind it
+  record Left (i : Item) (y : Cursor) : Type 0 where
+    behind : List Item
+    rest : walkFrom c k b s y ≡ taken behind
+    are : h .items ≡ i ∷ behind
+
+  left : (i : Item) (y : Cursor) → r ≡ Next i y → Left i y
+  left i y f = go (walkFrom c k b s y) refl (sym (walk-next c k b s t x r e i y f) ∙ h .rest)
+    where
+      go : (w : Outcome (List Item)) → walkFrom c k b s y ≡ w → add i (walkFrom c k b s y) ≡ taken (h .items) → Left i y
+      go (taken l) g j = record { behind = l; rest = g; are = added i l (h .items) (rw g at j) }
+      go (refused z p q) g j = absurd (not-added i (h .items) z p q (rw g at j))
+
+  pub listing-room : (i : Item) (y : Cursor) → r ≡ Next i y → Room d at (recordOf i)
+  unfolding recordsOf
+  listing-room i y f =
+      let g = left i y f in
+      let m = filling-fits _ d₀ d at (recordsOf (h .items)) (recordOf i) (recordsOf (g .behind)) 64 (h .filled) (ap recordsOf (g .are)) (length-recordOf i) (omega arith) in
+      record { fits = rw (length-recordOf i) (omega (arith, m, h .fits, h .filled .same)) }
+
+  pub listing-more : (i : Item) (y : Cursor) (d′ : List ℕ) (n : ℕ) → r ≡ Next i y → Puts d d′ at (recordOf i) n → Listing c k b s d₀ d′ y n
+  unfolding recordsOf
+  listing-more i y d′ n f p =
+      let g = left i y f in
+      let m : n ≡ at + 64 = p .next ∙ rw (length-recordOf i) refl in
+      record {
+        items = g .behind;
+        rest = g .rest;
+        fits = h .fits;
+        filled = rw m (filling-more _ d₀ d at (recordsOf (h .items)) (recordOf i) (recordsOf (g .behind)) 64 (h .filled) (ap recordsOf (g .are)) (length-recordOf i) (omega arith) d′ (h .fits) (p .stores));
+      }
+
+  pub listing-done : r ≡ Done → d ≡ splice d₀ 0 (recordBytes (walkFrom c k b s start))
+  unfolding recordsOf
+  listing-done f =
+      let g : h .items ≡ [] = none-left (h .items) (sym (walk-done c k b s t x r e f) ∙ h .rest) in
+      filling-all _ d₀ d at (recordsOf (h .items)) (h .filled) (ap recordsOf g)
+
+  pub listing-refused : (q : Refusal) → r ≡ step-refused q → d ≡ splice d₀ 0 (recordBytes (walkFrom c k b s start))
+  listing-refused q f = absurd (not-refused q (h .items) (sym (walk-refused c k b s t x r e q f) ∙ h .rest))
+
+pub listing-same : (c : List ℕ) (k : Counts) (b : Bases) (s d₀ d : List ℕ) (x : Cursor) (at : ℕ) → Listing c k b s d₀ d x at → length d ≡ length d₀
+listing-same c k b s d₀ d x at h = h .filled .same
+
+pub ruleset listing = (listing-none, listing-room, listing-more, listing-done, listing-refused, listing-same, next-less)

@@ -1,5 +1,5 @@
 -- The listing of Data: whether it is accepted, and then all its records. Assumes nothing.
-use Prim.Native.Nat.{ℕ, _+_, _*_}
+use Prim.Native.Nat.{ℕ, _+_, _*_, _≤_}
 use mathlib.Core.Path.{_≡_}
 use mathlib.Core.List.{List, []}
 use lib.Dec.{ltb}
@@ -7,25 +7,19 @@ use lib.ListN.{length}
 use Rattle.wire.specs.Choose.{pick}
 use Rattle.wire.specs.Refusals.{Outcome, taken, refused, saidRefusal}
 use Rattle.wire.specs.Store.{splice}
-use Rattle.wire.specs.declared.refusal.Fault.the-variants.{OverLimit, OutOfRange, NoRoom}
-use Rattle.wire.specs.declared.refusal.Slice.the-variants.{Data, Schema, Output, Bases as bases-slice}
+use Rattle.wire.specs.declared.refusal.Fault.the-variants.{NoRoom}
+use Rattle.wire.specs.declared.refusal.Slice.the-variants.{Output}
 use Rattle.wire.specs.declared.times.Bases.{Bases}
-use Rattle.schema.specs.Records.{schemaOf, anywhere}
-use Rattle.walk.specs.Steps.{badBases, after}
+use Rattle.walk.specs.Tables.{after, tableAt}
 use Rattle.walk.specs.Walks.{start, walkFrom}
 use Rattle.walk.specs.declared.items.Item.{Item}
 use Rattle.listing.specs.Records.{recordsOf}
 use Rattle.listing.specs.declared.lists.Listed.{Listed}
 use Rattle.listing.specs.declared.lists.Listed.the-variants.{Records, Refused}
 
--- the items of Data in a table of the schema c and the bases b: "Every call tests 1 first, then 5 for bases". A buffer of room bytes is lent
+-- the items of Data in a table of the schema c and the bases b, where a buffer of room bytes is lent
 unfoldable pub listAt : List ℕ → Bases → List ℕ → ℕ → Outcome (List Item)
-listAt c b s room =
-    pick (ltb 1073741824 (length c)) (refused OverLimit Schema 0)
-    (pick (ltb 1073741824 (length s)) (refused OverLimit Data 0)
-    (pick (ltb 1073741824 room) (refused OverLimit Output 0)
-    (pick (badBases b) (refused OutOfRange bases-slice 0)
-    (after (schemaOf anywhere c) (λ k. walkFrom c k b s start)))))
+listAt c b s room = after (tableAt c b s room) (λ k. walkFrom c k b s start)
 
 -- how many there are, n before them
 unfoldable pub counted : ℕ → Outcome (List Item) → Outcome ℕ
@@ -51,6 +45,12 @@ kept (refused f z p) w d = d
 unfoldable pub saidListed : Listed → Outcome ℕ
 saidListed (Records n) = taken n
 saidListed (Refused r) = saidRefusal r
+
+-- the items x are not refused, and their records fit into room bytes
+pub record Ready (x : Outcome (List Item)) (room : ℕ) : Type 0 where
+  pub items : List Item
+  pub are : x ≡ taken items
+  pub fits : 64 * length items ≤ room
 
 -- the listing x is stored in d, which becomes d′, and r is the answer; or r tells why not, and d′ is d
 pub record Lists (x : Outcome (List Item)) (d d′ : List ℕ) (r : Listed) : Type 0 where

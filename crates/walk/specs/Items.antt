@@ -1,5 +1,6 @@
 -- "Records of 64 bytes": what a step hands out. Timestamp and marks are the signed number plus 2^63: where there is none, 2^63. Assumes nothing.
 use Prim.Native.Nat.{ℕ, _-_, _/_, _%_}
+use mathlib.Core.Bool.{Bool, true}
 use mathlib.Core.List.{List, []}
 use lib.Dec.{eqb}
 use Rattle.wire.specs.Choose.{pick, bind}
@@ -82,10 +83,11 @@ cellItem column c =
 unfoldable pub endItem : ℕ → Item
 endItem at = item 7 0 0 0 zeroed zeroed 0 0 zeroed 0 at 1
 
--- "a value is handed out as the part of Data that holds it" (decision L10): a key, a clustering value or a cell's value. An item of another
--- kind has none: the empty part; and so where the item's place is outside s
+-- the kinds that show a key, a clustering value or a cell's value; the others show the whole item
+unfoldable pub showsValue : ℕ → Bool
+showsValue kind = pick (eqb kind 1) true (pick (eqb kind 5) true (eqb kind 6))
+
+-- "a value is handed out as the part of Data that holds it" (decision L10). An item of a kind that shows none has the empty part, and so
+-- has one whose place is outside s
 unfoldable pub valueOf : List ℕ → Item → List ℕ
-valueOf s i =
-    pick (eqb (i .kind) 1) (shown s (i .offset) (i .length))
-    (pick (eqb (i .kind) 5) (shown s (i .offset) (i .length))
-    (pick (eqb (i .kind) 6) (shown s (i .offset) (i .length)) []))
+valueOf s i = pick (showsValue (i .kind)) (shown s (i .offset) (i .length)) []

@@ -1,7 +1,7 @@
 // What a step hands out: the numbers of a record.
 ghost use mathlib.Core.Path.{_≡_};
 ghost use Prim.Native.Nat.{_-_};
-ghost use Rattle.walk.specs.Items.{markOf, timeOf, partitionFlags, cellFlags, partitionItem, rowItem, markerItem, valueItem, cellItem, endItem, valueOf};
+ghost use Rattle.walk.specs.Items.{markOf, timeOf, partitionFlags, cellFlags, partitionItem, rowItem, markerItem, valueItem, cellItem, endItem, showsValue, valueOf};
 use cell::cells::Cell;
 use cell::cells::Times;
 use cell::fields::Deletion;
@@ -243,19 +243,26 @@ pub(crate) fn end_item(at: usize) -> Item
     }
 }
 
+// Whether an item of the kind shows a key, a clustering value or a cell's value.
+fn shows_value(kind: u64) -> bool
+    ensures { λ r. ⌜ r ≡ showsValue kind ⌝ }
+{
+    if kind == 1 {
+        return true;
+    }
+    if kind == 5 {
+        return true;
+    }
+    kind == 6
+}
+
 impl Item {
     // The key, clustering value or cell's value that the item shows, as the part of Data that holds it. The empty part where it shows none,
     // or where its place is outside Data.
     pub fn value(self, data: &[u8]) -> &[u8]
         ensures { λ r. ⌜ now r ≡ valueOf (now («data» .entry)) self ⌝ }
     {
-        if self.kind == 1 {
-            return part::shown_in(data, self.offset, self.length);
-        }
-        if self.kind == 5 {
-            return part::shown_in(data, self.offset, self.length);
-        }
-        if self.kind == 6 {
+        if shows_value(self.kind) {
             return part::shown_in(data, self.offset, self.length);
         }
         &data[..0]

@@ -5,10 +5,6 @@ use Rattle.listing.proofs.Loops.{Counting, counting}
 use borrow.Author.Needs.{needs}
 use Rattle.listing.proofs.lists.count_in.Statement.{statement}
 use Rattle.listing.proofs.lists.count_in.Tie as tie
-use Rattle.listing.proofs.lists.count_in.Reads as reads
-use Rattle.listing.proofs.lists.count_in.Lts as lts
-use Rattle.walk.proofs.cursors.Cursor.start.Reads as start-reads
-use Rattle.walk.proofs.steps.step_in.Reads as step-in-reads
 
 abbrev Inv-loop : tie.InvT-loop
 Inv-loop c k b s x₀ n₀ x n = Counting c k b s x n
@@ -16,47 +12,36 @@ Inv-loop c k b s x₀ n₀ x n = Counting c k b s x n
 abbrev μ-loop : tie.MeasureT-loop
 μ-loop c k b s x₀ n₀ x n = remaining (length s) x
 
--- src/lists.rt:31:9
 start-requires : tie.Need-start-requires Inv-loop μ-loop
 start-requires c κs = search (counting, tables, needs)
 
--- src/lists.rt:33:5
 loop-holds : tie.Need-loop-holds Inv-loop μ-loop
 loop-holds c = search (counting, tables, needs)
 
--- src/lists.rt:34:15
 step-in-requires : tie.Need-step-in-requires Inv-loop μ-loop
 step-in-requires c κs = search (counting, tables, needs)
 
--- src/lists.rt:35:35
 enum-known-cursor : tie.Need-enum-known-cursor Inv-loop μ-loop
 enum-known-cursor c = search (counting, tables, needs)
 
--- src/lists.rt:37:17
 add-n : tie.Need-add-n Inv-loop μ-loop
 add-n c = search (counting, tables, needs)
 
--- src/lists.rt:33:5
 loop-less : tie.Need-loop-less Inv-loop μ-loop
 loop-less c = search (counting, tables, needs)
 
--- src/lists.rt:33:5
 loop-again : tie.Need-loop-again Inv-loop μ-loop
 loop-again c = search (counting, tables, needs)
 
--- src/lists.rt:40:17
 enum-told : tie.Need-enum-told Inv-loop μ-loop
 enum-told c = search (counting, tables, needs)
 
--- src/lists.rt:40:17
 returns : tie.Need-returns Inv-loop μ-loop
 returns c = search (counting, tables, needs)
 
--- src/lists.rt:42:27
 enum-known-refusal : tie.Need-enum-known-refusal Inv-loop μ-loop
 enum-known-refusal c = search (counting, tables, needs)
 
--- src/lists.rt:43:17
 returns-2 : tie.Need-returns-2 Inv-loop μ-loop
 returns-2 c = search (counting, tables, needs)
 

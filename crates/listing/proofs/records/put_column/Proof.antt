@@ -3,25 +3,18 @@ use Rattle.listing.specs.Records.{columnBytes}
 use borrow.Author.Needs.{needs}
 use Rattle.listing.proofs.records.put_column.Statement.{statement}
 use Rattle.listing.proofs.records.put_column.Tie as tie
-use Rattle.listing.proofs.records.put_column.Reads as reads
-use Rattle.listing.proofs.records.put_column.Lts as lts
-use Rattle.wire.proofs.number.put_in.Reads as put-in-reads
 
--- src/records.rt:30:9
 put-in-requires : tie.Need-put-in-requires
 unfolding columnBytes
 put-in-requires c κs = search (room-left, room-right, puts-then, puts-same, needs) depth 12
 
--- src/records.rt:31:5
 put-in-requires-2 : tie.Need-put-in-requires-2
 unfolding columnBytes
 put-in-requires-2 c κs = search (room-left, room-right, puts-then, puts-same, needs) depth 12
 
--- src/records.rt:26:1
 same-length : tie.Need-same-length
 same-length c = search needs
 
--- src/records.rt:26:1
 returns : tie.Need-returns
 unfolding columnBytes
 returns c = search (room-left, room-right, puts-then, puts-same, needs) depth 12

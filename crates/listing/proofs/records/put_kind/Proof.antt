@@ -3,25 +3,18 @@ use Rattle.listing.specs.Records.{kindBytes}
 use borrow.Author.Needs.{needs}
 use Rattle.listing.proofs.records.put_kind.Statement.{statement}
 use Rattle.listing.proofs.records.put_kind.Tie as tie
-use Rattle.listing.proofs.records.put_kind.Reads as reads
-use Rattle.listing.proofs.records.put_kind.Lts as lts
-use Rattle.wire.proofs.number.put_in.Reads as put-in-reads
 
--- src/records.rt:21:9
 put-in-requires : tie.Need-put-in-requires
 unfolding kindBytes
 put-in-requires c κs = search (room-left, room-right, puts-then, puts-same, needs) depth 12
 
--- src/records.rt:22:5
 put-in-requires-2 : tie.Need-put-in-requires-2
 unfolding kindBytes
 put-in-requires-2 c κs = search (room-left, room-right, puts-then, puts-same, needs) depth 12
 
--- src/records.rt:17:1
 same-length : tie.Need-same-length
 same-length c = search needs
 
--- src/records.rt:17:1
 returns : tie.Need-returns
 unfolding kindBytes
 returns c = search (room-left, room-right, puts-then, puts-same, needs) depth 12

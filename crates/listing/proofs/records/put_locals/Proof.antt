@@ -3,25 +3,18 @@ use Rattle.listing.specs.Records.{localBytes}
 use borrow.Author.Needs.{needs}
 use Rattle.listing.proofs.records.put_locals.Statement.{statement}
 use Rattle.listing.proofs.records.put_locals.Tie as tie
-use Rattle.listing.proofs.records.put_locals.Reads as reads
-use Rattle.listing.proofs.records.put_locals.Lts as lts
-use Rattle.wire.proofs.number.put_in.Reads as put-in-reads
 
--- src/records.rt:49:9
 put-in-requires : tie.Need-put-in-requires
 unfolding localBytes
 put-in-requires c κs = search (room-left, room-right, puts-then, puts-same, needs) depth 12
 
--- src/records.rt:50:5
 put-in-requires-2 : tie.Need-put-in-requires-2
 unfolding localBytes
 put-in-requires-2 c κs = search (room-left, room-right, puts-then, puts-same, needs) depth 12
 
--- src/records.rt:45:1
 same-length : tie.Need-same-length
 same-length c = search needs
 
--- src/records.rt:45:1
 returns : tie.Need-returns
 unfolding localBytes
 returns c = search (room-left, room-right, puts-then, puts-same, needs) depth 12

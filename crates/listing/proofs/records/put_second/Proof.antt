@@ -3,31 +3,22 @@ use Rattle.listing.specs.Records.{secondBytes}
 use borrow.Author.Needs.{needs}
 use Rattle.listing.proofs.records.put_second.Statement.{statement}
 use Rattle.listing.proofs.records.put_second.Tie as tie
-use Rattle.listing.proofs.records.put_second.Reads as reads
-use Rattle.listing.proofs.records.put_second.Lts as lts
-use Rattle.listing.proofs.records.put_signed.Reads as put-signed-reads
-use Rattle.wire.proofs.number.put_in.Reads as put-in-reads
 
--- src/records.rt:68:9
 put-signed-requires : tie.Need-put-signed-requires
 unfolding secondBytes
 put-signed-requires c κs = search (room-left, room-right, puts-then, puts-same, needs) depth 12
 
--- src/records.rt:69:9
 put-in-requires : tie.Need-put-in-requires
 unfolding secondBytes
 put-in-requires c κs = search (room-left, room-right, puts-then, puts-same, needs) depth 12
 
--- src/records.rt:70:5
 put-in-requires-2 : tie.Need-put-in-requires-2
 unfolding secondBytes
 put-in-requires-2 c κs = search (room-left, room-right, puts-then, puts-same, needs) depth 12
 
--- src/records.rt:64:1
 same-length : tie.Need-same-length
 same-length c = search needs
 
--- src/records.rt:64:1
 returns : tie.Need-returns
 unfolding secondBytes
 returns c = search (room-left, room-right, puts-then, puts-same, needs) depth 12

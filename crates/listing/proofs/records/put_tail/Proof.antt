@@ -3,26 +3,18 @@ use Rattle.listing.specs.Records.{tailBytes}
 use borrow.Author.Needs.{needs}
 use Rattle.listing.proofs.records.put_tail.Statement.{statement}
 use Rattle.listing.proofs.records.put_tail.Tie as tie
-use Rattle.listing.proofs.records.put_tail.Reads as reads
-use Rattle.listing.proofs.records.put_tail.Lts as lts
-use Rattle.listing.proofs.records.put_place.Reads as put-place-reads
-use Rattle.listing.proofs.records.put_second.Reads as put-second-reads
 
--- src/records.rt:87:9
 put-second-requires : tie.Need-put-second-requires
 unfolding tailBytes
 put-second-requires c κs = search (room-left, room-right, puts-then, puts-same, needs) depth 12
 
--- src/records.rt:88:5
 put-place-requires : tie.Need-put-place-requires
 unfolding tailBytes
 put-place-requires c κs = search (room-left, room-right, puts-then, puts-same, needs) depth 12
 
--- src/records.rt:83:1
 same-length : tie.Need-same-length
 same-length c = search needs
 
--- src/records.rt:83:1
 returns : tie.Need-returns
 unfolding tailBytes
 returns c = search (room-left, room-right, puts-then, puts-same, needs) depth 12

@@ -3,31 +3,22 @@ use Rattle.listing.specs.Records.{timeBytes}
 use borrow.Author.Needs.{needs}
 use Rattle.listing.proofs.records.put_times.Statement.{statement}
 use Rattle.listing.proofs.records.put_times.Tie as tie
-use Rattle.listing.proofs.records.put_times.Reads as reads
-use Rattle.listing.proofs.records.put_times.Lts as lts
-use Rattle.listing.proofs.records.put_locals.Reads as put-locals-reads
-use Rattle.listing.proofs.records.put_signed.Reads as put-signed-reads
 
--- src/records.rt:58:9
 put-signed-requires : tie.Need-put-signed-requires
 unfolding timeBytes
 put-signed-requires c κs = search (room-left, room-right, puts-then, puts-same, needs) depth 12
 
--- src/records.rt:59:9
 put-signed-requires-2 : tie.Need-put-signed-requires-2
 unfolding timeBytes
 put-signed-requires-2 c κs = search (room-left, room-right, puts-then, puts-same, needs) depth 12
 
--- src/records.rt:60:5
 put-locals-requires : tie.Need-put-locals-requires
 unfolding timeBytes
 put-locals-requires c κs = search (room-left, room-right, puts-then, puts-same, needs) depth 12
 
--- src/records.rt:54:1
 same-length : tie.Need-same-length
 same-length c = search needs
 
--- src/records.rt:54:1
 returns : tie.Need-returns
 unfolding timeBytes
 returns c = search (room-left, room-right, puts-then, puts-same, needs) depth 12
