@@ -20,8 +20,11 @@ use Rattle.walk.specs.declared.items.Item.{Item}
 use Rattle.walk.specs.declared.cursors.Cursor.{Cursor}
 use Rattle.walk.specs.declared.steps.Step.{Step}
 use Rattle.walk.specs.declared.steps.Step.the-variants.{Next, Done, Refused}
+use Rattle.listing.specs.Lists.{listAt, counted, saidListed, Lists}
+use Rattle.listing.specs.declared.lists.Listed.{Listed}
+use Rattle.listing.specs.declared.lists.Listed.the-variants.{Records, Refused as listed-refused}
 use Rattle.sstable.specs.Words.{words, mapped}
-use Rattle.sstable.specs.Data.{basesIn, cursorIn, stateWords, itemWords, noItem, answerWords, stateAfter, stepOf, Told, valueWords, Shows}
+use Rattle.sstable.specs.Data.{basesIn, cursorIn, stateWords, itemWords, noItem, answerWords, stateAfter, stepOf, Told, valueWords, Shows, itemsOf, listedWords, Listing}
 
 -- ---- words
 pub item-is : (i : Item) (t m n : ℕ) → t ≡ biased (i .timestamp) → m ≡ biased (i .mark) → n ≡ biased (i .mark2)
@@ -69,10 +72,7 @@ part-shown s offset len =
 
 part-value : (s : List ℕ) (i : Item) → part s (i .offset) (length (valueOf s i)) ≡ valueOf s i
 unfolding valueOf
-part-value s i =
-    pick-ind (λ v. part s (i .offset) (length v) ≡ v) _ _ _ (λ _. part-shown s (i .offset) (i .length)) (λ _.
-    pick-ind (λ v. part s (i .offset) (length v) ≡ v) _ _ _ (λ _. part-shown s (i .offset) (i .length)) (λ _.
-    pick-ind (λ v. part s (i .offset) (length v) ≡ v) _ _ _ (λ _. part-shown s (i .offset) (i .length)) (λ _. part-none s (i .offset))))
+part-value s i = pick-ind (λ v. part s (i .offset) (length v) ≡ v) _ _ _ (λ _. part-shown s (i .offset) (i .length)) (λ _. part-none s (i .offset))
 
 empty : (v : List ℕ) → length v ≡ 0 → v ≡ []
 empty [] e = refl
@@ -94,3 +94,24 @@ module _ (s : List ℕ) (i : Item) (v : List ℕ) (e : v ≡ valueOf s i) where
   }
 
 pub ruleset shows = (shows-none, shows-there)
+
+-- ---- the listing
+module _ (l : Listed) where
+  pub listed-is : (n : ℕ) → l ≡ Records n → 0 ∷ 0 ∷ 0 ∷ n ∷ [] ≡ listedWords (saidListed l)
+  unfolding listedWords saidListed words mapped
+  listed-is n e = rw e refl
+
+  pub listed-bad : (x : Refusal) (m n : ℕ) → l ≡ listed-refused x → m ≡ faultNumber (x .fault) → n ≡ sliceNumber (x .slice) → m ∷ n ∷ x .place ∷ 0 ∷ [] ≡ listedWords (saidListed l)
+  unfolding listedWords saidListed words mapped
+  listed-bad x m n e f g = rw (e, f, g) refl
+
+pub ruleset lists-words = (listed-is, listed-bad)
+
+module _ (c b s : List ℕ) (k : Bases) (l : Listed) (e : k ≡ basesIn b) where
+  pub counts-items : (a : List ℕ) → saidListed l ≡ counted 0 (listAt c k s 0) → a ≡ listedWords (saidListed l) → a ≡ listedWords (counted 0 (itemsOf c b s 0))
+  unfolding itemsOf bind
+  counts-items a f g = rw (← e, ← f) g
+
+  pub lists-items : (d d′ a : List ℕ) → Lists (listAt c k s (length d)) d d′ l → a ≡ listedWords (saidListed l) → Listing (itemsOf c b s (length d)) d d′ a
+  unfolding itemsOf bind
+  lists-items d d′ a h g = rw (← e) record { answer = rw (← (h .answer)) g; buffer = h .buffer }

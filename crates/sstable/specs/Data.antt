@@ -1,4 +1,4 @@
--- The calls of the C interface for Data: one step of the walk, and the value that an item shows. Assumes nothing.
+-- The calls of the C interface for Data: one step of the walk, the value that an item shows, the listing. Assumes nothing.
 use Prim.Native.Nat.{ℕ}
 use mathlib.Core.Path.{_≡_}
 use mathlib.Core.List.{List, [], _∷_}
@@ -22,6 +22,7 @@ use Rattle.walk.specs.declared.cursors.Phase.{Phase}
 use Rattle.walk.specs.declared.cursors.Phase.the-variants.{Partition, First, Items, Values, Prefix, Statics, Cells}
 use Rattle.walk.specs.declared.cursors.Hand.{Hand}
 use Rattle.walk.specs.declared.cursors.Cursor.{Cursor}
+use Rattle.listing.specs.Lists.{listAt, counted, fitted, recordBytes, kept}
 use Rattle.sstable.specs.Words.{words, mapped}
 
 -- the bases of three words: timestamp (the signed number's bits), local deletion time, TTL
@@ -161,3 +162,17 @@ valueWords s i = bind (length (valueOf s i)) (λ n. pick (eqb n 0) (0 ∷ 0 ∷ 
 pub record Shows (s : List ℕ) (i : Item) (a : List ℕ) : Type 0 where
   pub place : a ≡ valueWords s i
   pub bytes : part s (getD a 0 0) (getD a 1 0) ≡ valueOf s i
+
+-- ---- the listing
+-- the items of the Data s, in a table of the schema c and the bases b, where a buffer of room bytes is lent
+unfoldable pub itemsOf : List ℕ → List ℕ → List ℕ → ℕ → Outcome (List Item)
+itemsOf c b s room = bind (basesIn b) (λ bases. listAt c bases s room)
+
+-- the words of an answer: how many records there are
+unfoldable pub listedWords : Outcome ℕ → List ℕ
+listedWords x = words (0 ∷ []) (mapped (λ n. n ∷ []) x)
+
+-- the records of the items x are stored in d, which becomes d′, and a are the answer's words; or a tells why not, and d′ is d
+pub record Listing (x : Outcome (List Item)) (d d′ a : List ℕ) : Type 0 where
+  pub answer : a ≡ listedWords (fitted (counted 0 x) (length d))
+  pub buffer : d′ ≡ kept (fitted (counted 0 x) (length d)) (recordBytes x) d

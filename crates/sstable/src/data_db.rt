@@ -17,7 +17,7 @@ use wire::times;
 use wire::times::Bases;
 
 // The bases of three words.
-fn bases_in(b: &[u64; 3]) -> Bases
+pub(crate) fn bases_in(b: &[u64; 3]) -> Bases
     ensures { λ r. ⌜ r ≡ basesIn (now (b .entry)) ⌝ }
 {
     Bases {
