@@ -2,11 +2,11 @@
 use mathlib.Core.Path.{_≡_, refl, sym, ap, _∙_}
 use mathlib.Core.List.{List, [], _∷_}
 use mathlib.Core.Option.{none, some}
-use Prim.Native.Nat.{ℕ, _-_}
+use Prim.Native.Nat.{ℕ, _-_, _<_}
 use native.Mathlib.Omega.{arith}
-use borrow.Author.Tests.{eq-eqb, ne-eqb, ltb-false}
-use lib.ListN.{length}
-use Rattle.wire.specs.Choose.{bind}
+use borrow.Author.Tests.{lt-ltb, eq-eqb, ne-eqb, ltb-false}
+use lib.ListN.{length, getD}
+use Rattle.wire.specs.Choose.{pick, bind}
 use Rattle.wire.specs.Refusals.{faultNumber, sliceNumber, Outcome, taken, refused, saidRefusal}
 use Rattle.wire.specs.Store.{part, shown}
 use Rattle.wire.specs.Times.{biased}
@@ -15,16 +15,20 @@ use Rattle.wire.proofs.Puts.{length-part}
 use Rattle.walk.specs.Items.{valueOf}
 use Rattle.wire.specs.declared.refusal.Refusal.{Refusal}
 use Rattle.wire.specs.declared.times.Bases.{Bases}
-use Rattle.walk.specs.Steps.{Answer, stepAt, saidStep}
+use Rattle.walk.specs.Cursors.{atItems}
+use Rattle.walk.specs.Steps.{Answer, badState, partitionAnswer, stepIn, stepAt, saidStep}
+use Rattle.walk.specs.Tables.{after, tableAt}
+use Rattle.walk.specs.Walks.{start}
 use Rattle.walk.specs.declared.items.Item.{Item}
 use Rattle.walk.specs.declared.cursors.Cursor.{Cursor}
+use Rattle.walk.specs.declared.cursors.Phase.the-variants.{Partition}
 use Rattle.walk.specs.declared.steps.Step.{Step}
 use Rattle.walk.specs.declared.steps.Step.the-variants.{Next, Done, Refused}
 use Rattle.listing.specs.Lists.{listAt, counted, saidListed, Lists}
 use Rattle.listing.specs.declared.lists.Listed.{Listed}
 use Rattle.listing.specs.declared.lists.Listed.the-variants.{Records, Refused as listed-refused}
 use Rattle.sstable.specs.Words.{words, mapped}
-use Rattle.sstable.specs.Data.{basesIn, cursorIn, stateWords, itemWords, noItem, answerWords, stateAfter, stepOf, Told, valueWords, Shows, itemsOf, listedWords, Listing}
+use Rattle.sstable.specs.Data.{basesIn, phaseOf, positionIn, cursorIn, stateWords, itemWords, noItem, answerWords, stateAfter, stepOf, Told, valueWords, Shows, itemsOf, listedWords, Listing}
 
 -- ---- words
 pub item-is : (i : Item) (t m n : ℕ) → t ≡ biased (i .timestamp) → m ≡ biased (i .mark) → n ≡ biased (i .mark2)
@@ -56,6 +60,33 @@ module _ (c b s w : List ℕ) (k : Bases) (x : Cursor) (r : Step) (e : k ≡ bas
   told-refused y a d j = rw (of-step, d) record { answer = j; state = refl }
 
 pub ruleset tells = (told-next, told-done, told-refused)
+
+-- sixteen zeros are the start of Data
+pub zeros-start : (c s : List ℕ) (b : Bases) → stepAt c b (cursorIn (0 ∷ 0 ∷ 0 ∷ 0 ∷ 0 ∷ 0 ∷ 0 ∷ 0 ∷ 0 ∷ 0 ∷ 0 ∷ 0 ∷ 0 ∷ 0 ∷ 0 ∷ 0 ∷ [])) s ≡ stepAt c b start s
+unfolding stepAt stepIn partitionAnswer cursorIn positionIn phaseOf start atItems bind pick
+zeros-start c s b = refl
+
+-- a number that is no phase is refused where the state is tested: 10 at 0
+outside-position : (w : List ℕ) → 6 < getD w 0 0 → positionIn w ≡ 18446744073709551615
+unfolding positionIn
+outside-position w h = sym (pick-yes _ _ _ _ (lt-ltb 6 (getD w 0 0) h) refl)
+
+outside-phase : (n : ℕ) → 6 < n → phaseOf n ≡ Partition
+unfolding phaseOf
+outside-phase n h =
+    sym
+    (pick-no _ _ _ _ (ne-eqb n 1 (λ e. absurd (omega (arith, e))))
+    (pick-no _ _ _ _ (ne-eqb n 2 (λ e. absurd (omega (arith, e))))
+    (pick-no _ _ _ _ (ne-eqb n 3 (λ e. absurd (omega (arith, e))))
+    (pick-no _ _ _ _ (ne-eqb n 4 (λ e. absurd (omega (arith, e))))
+    (pick-no _ _ _ _ (ne-eqb n 5 (λ e. absurd (omega (arith, e))))
+    (pick-no _ _ _ _ (ne-eqb n 6 (λ e. absurd (omega (arith, e)))) refl))))))
+
+pub no-phase : (c s w : List ℕ) (b : Bases) → 6 < getD w 0 0 → length s < 18446744073709551615 → stepAt c b (cursorIn w) s ≡ after (tableAt c b s 0) (λ _. badState)
+unfolding stepAt stepIn partitionAnswer cursorIn bind
+no-phase c s w b h k =
+    rw (outside-phase (getD w 0 0) h, outside-position w h)
+    (ap (after (tableAt c b s 0)) (ap (λ x _. x) (sym (pick-yes _ _ _ _ (lt-ltb (length s) 18446744073709551615 k) refl))))
 
 -- ---- a value
 -- what is shown is there, from its offset on

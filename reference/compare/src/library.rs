@@ -61,6 +61,24 @@ extern "C" {
         data_len: usize,
         answer: *mut [u64; 2],
     );
+    fn sstable_count(
+        schema: *const u8,
+        schema_len: usize,
+        bases: *const [u64; 3],
+        data: *const u8,
+        data_len: usize,
+        answer: *mut [u64; 4],
+    );
+    fn sstable_list(
+        schema: *const u8,
+        schema_len: usize,
+        bases: *const [u64; 3],
+        data: *const u8,
+        data_len: usize,
+        out: *mut u8,
+        out_len: usize,
+        answer: *mut [u64; 4],
+    );
 }
 
 /// A schema, bases and Data, as the calls for Data take them: the bases are
@@ -273,6 +291,56 @@ pub fn value(kind: u64, offset: u64, length: u64, data: &[u8]) -> Answer<&[u8]> 
     let end = at.checked_add(len).filter(|_| len != 0 || at == 0);
     end.and_then(|end| data.get(at as usize..end as usize))
         .ok_or_else(|| Fault::Broken(format!("value at {at}, {len} bytes")))
+}
+
+/// How many records Data has.
+pub fn count(table: Table) -> Answer<usize> {
+    let Table {
+        schema,
+        bases,
+        data,
+    } = table;
+    let words = asked::<4>(|words| {
+        // SAFETY: pointers and lengths are those of slices, and the answer has
+        // room for four words.
+        unsafe {
+            sstable_count(
+                schema.as_ptr(),
+                schema.len(),
+                bases,
+                data.as_ptr(),
+                data.len(),
+                words,
+            )
+        }
+    })?;
+    taken(&words).map(|rest| rest[0] as usize)
+}
+
+/// Lists Data into `out`: how many records were stored.
+pub fn list(table: Table, out: &mut [u8]) -> Answer<usize> {
+    let Table {
+        schema,
+        bases,
+        data,
+    } = table;
+    let words = asked::<4>(|words| {
+        // SAFETY: pointers and lengths are those of slices, the last lent for
+        // writing, and the answer has room for four words.
+        unsafe {
+            sstable_list(
+                schema.as_ptr(),
+                schema.len(),
+                bases,
+                data.as_ptr(),
+                data.len(),
+                out.as_mut_ptr(),
+                out.len(),
+                words,
+            )
+        }
+    })?;
+    taken(&words).map(|rest| rest[0] as usize)
 }
 
 /// Lends `call` an answer of N words; those behind it must stay as they are.

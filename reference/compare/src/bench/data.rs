@@ -5,7 +5,7 @@ use std::time::Instant;
 
 use reference::data::{Bases, Source};
 use reference::schema::Schema;
-use reference::walk::{State, Step};
+use reference::walk::{list_into, walk, State, Step};
 use reference::{gen, read_statistics};
 
 use super::ROUNDS;
@@ -15,7 +15,10 @@ use crate::Failed;
 const SIZE: usize = 60_000_000;
 
 pub fn bench() -> Result<(), Failed> {
-    println!("best of {ROUNDS} over {SIZE} bytes of Data; ratios are of throughputs, library / reference");
+    println!(
+        "best of {ROUNDS} over {SIZE} bytes of Data; ratios are of throughputs, library to reference; \
+         each single step is one call, of the library with its test of the schema"
+    );
     bench_kind("one large partition", 0)?;
     bench_kind("partitions of 300 bytes", 300)
 }
@@ -54,47 +57,75 @@ fn bench_kind(what: &str, partition: usize) -> Result<(), Failed> {
         bases: &words,
         data: &made.data,
     };
-    let library = best(|| library_steps(table));
-    let reference = best(|| reference_steps(&source));
-    told_of(what, "single steps", library, reference)?;
-    Ok(())
+    let walked = race(
+        || library::count(table).map_or(0, |count| count as u64),
+        || reference_count(&source),
+    );
+    walked.tell(what, "walk to a count")?;
+    let mut out = vec![0; 64 * walked.items[0] as usize];
+    let mut records = Vec::with_capacity(walked.items[0] as usize);
+    let listed = race(
+        || library::list(table, &mut out).map_or(0, |count| count as u64),
+        || {
+            let listed = list_into(&made.records, made.bases, &made.data, &mut records);
+            listed.map_or(0, |()| records.len() as u64)
+        },
+    );
+    listed.tell(what, "listing")?;
+    if out != records.as_flattened() {
+        return Err(Failed::new(format!("{what}: the library lists other records")));
+    }
+    race(|| library_steps(table), || reference_steps(&source)).tell(what, "single steps")
 }
 
-struct Best {
-    seconds: f64,
-    items: u64,
+/// The best time of each, library first, and how many items it had.
+struct Race {
+    seconds: [f64; 2],
+    items: [u64; 2],
 }
 
-fn best(mut call: impl FnMut() -> u64) -> Best {
-    let mut best = Best {
-        seconds: f64::INFINITY,
-        items: 0,
+/// Rounds of both in turn, so that both meet the same machine.
+fn race(mut library: impl FnMut() -> u64, mut reference: impl FnMut() -> u64) -> Race {
+    let mut race = Race {
+        seconds: [f64::INFINITY; 2],
+        items: [0; 2],
     };
     for _ in 0..ROUNDS {
-        let start = Instant::now();
-        best.items = black_box(call());
-        best.seconds = best.seconds.min(start.elapsed().as_secs_f64());
+        for (i, call) in [&mut library as &mut dyn FnMut() -> u64, &mut reference]
+            .into_iter()
+            .enumerate()
+        {
+            let start = Instant::now();
+            race.items[i] = black_box(call());
+            race.seconds[i] = race.seconds[i].min(start.elapsed().as_secs_f64());
+        }
     }
-    best
+    race
 }
 
-fn told_of(what: &str, how: &str, library: Best, reference: Best) -> Result<(), Failed> {
-    if library.items != reference.items {
-        return Err(Failed::new(format!(
-            "{what}, {how}: the library reads other items"
-        )));
+impl Race {
+    fn tell(&self, what: &str, how: &str) -> Result<(), Failed> {
+        let [items, others] = self.items;
+        if items != others || items == 0 {
+            let text = format!("{what}, {how}: {items} items against {others}");
+            return Err(Failed::new(text));
+        }
+        let [library, reference] = self.seconds;
+        let rate = |seconds: f64| SIZE as f64 / seconds / 1e6;
+        println!(
+            "{what}, {how}: library {library:.3} s ({:.0} MB/s), reference {reference:.3} s \
+             ({:.0} MB/s), ratio {:.2} ({items} items)",
+            rate(library),
+            rate(reference),
+            reference / library,
+        );
+        Ok(())
     }
-    let rate = |best: &Best| SIZE as f64 / best.seconds / 1e6;
-    println!(
-        "{what}, {how}: library {:.3} s ({:.0} MB/s), reference {:.3} s ({:.0} MB/s), ratio {:.2} ({} items)",
-        library.seconds,
-        rate(&library),
-        reference.seconds,
-        rate(&reference),
-        reference.seconds / library.seconds,
-        library.items
-    );
-    Ok(())
+}
+
+fn reference_count(source: &Source) -> u64 {
+    let mut items = 0;
+    walk(source, |_| items += 1).map_or(0, |()| items)
 }
 
 fn library_steps(table: Table) -> u64 {

@@ -10,6 +10,7 @@ use reference::rng::Rng;
 use crate::library::Answer;
 
 mod damage;
+mod list;
 mod schema;
 mod scylla;
 mod states;
@@ -76,6 +77,7 @@ pub fn all() -> Vec<Box<dyn Kind>> {
         Box::new(statistics::Statistics),
         Box::new(schema::Schema),
         Box::new(scylla::Scylla),
+        Box::new(list::List),
         Box::new(walk::Walk),
         Box::new(step::Step),
     ]
