@@ -64,6 +64,31 @@ bool sstable_schema_same(const uint8_t *a, size_t a_len, const uint8_t *t, size_
  * (sharding metadata), 2 (features), 3 (extension attributes) and 4 (run identifier), behind tag and size; zeros where absent. */
 void sstable_scylla_read(const uint8_t *file, size_t file_len, uint64_t answer[14]);
 
+/* Data. The calls below take a table: `schema`, the 16-byte records that sstable_statistics_read stores; `bases`, three words, timestamp
+ * base (the 64 bits of the signed number), local deletion time base and TTL base, as words 3 to 5 of sstable_statistics_read's answer
+ * hold them; and `data`. They refuse, in this order: 1 at 0 of schema, data and output; 5 at 0 of bases, where a local deletion time or TTL base is
+ * above 2147483647; 10 in schema, as sstable_schema_check; then what is wrong with the state or in data.
+ *
+ * An item is twelve numbers, those of a 64-byte record in its order: kind (1 partition, 2 static row, 3 row, 4 marker, 5 clustering value,
+ * 6 cell, 7 end), flags (1 timestamp, 2 TTL, 4 deletion or tombstone, 8 empty key or value), column from 0 or marker kind, TTL,
+ * timestamp, mark, its local time, expiry, second mark, second local time, offset, length. Timestamp and marks are the 64 bits of
+ * signed numbers. Offset and length show a key or value in data (0, 0 where it is empty, or of a tombstone), or else the whole item. */
+
+/* One step of the walk: the next item of `data`. `state` is the walk's state; sixteen zeros are the start of Data. Where an item is handed
+ * out, and only there, the state becomes the one behind it, for the next call. A refusal leaves the state as it was.
+ * Words of the answer: 3 to 14 the item; all zeros where none is left.
+ * Words of the state: 0 phase (0 a partition is due, 1 its first item, 2 an item, 3 a row's clustering value, 4 a marker's, 5 a static row's
+ * cell, 6 a row's), 1 position, 2 column; 3 whether a range is open, 4 its mark, 5 its local time; 6 clustering header, 7 count of clustering
+ * values, 8 columns that have a cell (lowest bit the first), 9 place of the first cell, 10 end of the body; of the row in hand 11 whether
+ * it has a timestamp, 12 the timestamp, 13 whether it expires, 14 TTL, 15 expiry. A caller may keep states and step from any of them
+ * again. Words that hold no state of this schema and data are refused: 10 at 0 of state. */
+void sstable_step(const uint8_t *schema, size_t schema_len, const uint64_t bases[3], const uint8_t *data, size_t data_len,
+                  uint64_t state[16], uint64_t answer[15]);
+
+/* Where the key or value lies that an item of this kind, offset and length shows, in `data`: kinds 1, 5 and 6 have one.
+ * Words (there is no refusal): 0 offset, 1 length; 0, 0 where it is empty, where the kind has none, or where the place is outside data. */
+void sstable_value(uint64_t kind, size_t offset, size_t length, const uint8_t *data, size_t data_len, uint64_t answer[2]);
+
 #ifdef __cplusplus
 }
 #endif

@@ -9,10 +9,30 @@ use reference::{gen, read_statistics, varint};
 use crate::library::{self, varint_read_words};
 use crate::Failed;
 
+mod data;
+
 const SIZE: usize = 100_000_000;
 const ROUNDS: u32 = 5;
 
-pub fn bench() -> Result<(), Failed> {
+/// All of it, or the part named.
+pub fn bench(part: Option<&str>) -> Result<(), Failed> {
+    let parts: [(&str, fn() -> Result<(), Failed>); 3] = [
+        ("varints", all_varints),
+        ("statistics", all_statistics),
+        ("data", data::bench),
+    ];
+    let chosen = |name: &str| part.is_none_or(|part| part == name);
+    if !parts.iter().any(|(name, _)| chosen(name)) {
+        let names = parts.map(|(name, _)| name).join(", ");
+        return Err(Failed::new(format!("no such part; there is {names}")));
+    }
+    for (_, bench) in parts.iter().filter(|(name, _)| chosen(name)) {
+        bench()?;
+    }
+    Ok(())
+}
+
+fn all_varints() -> Result<(), Failed> {
     println!(
         "best of {ROUNDS} over {SIZE} bytes; each varint is one call: of the library through C, \
          of the reference through a function that is not inlined and fills the same words"
@@ -27,7 +47,10 @@ pub fn bench() -> Result<(), Failed> {
             _ => 4 + rng.index(6),
         }
     })?;
-    bench_varints("varints of 1 to 9 bytes evenly", |rng| 1 + rng.index(9))?;
+    bench_varints("varints of 1 to 9 bytes evenly", |rng| 1 + rng.index(9))
+}
+
+fn all_statistics() -> Result<(), Failed> {
     println!("best of {ROUNDS}; one read of a Statistics of 159 columns into a lent buffer");
     bench_statistics("names of 1000 bytes, alike but for the last", |i| {
         let last = char::from(i as u8);

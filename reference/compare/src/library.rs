@@ -5,6 +5,7 @@
 
 use std::fmt;
 
+use reference::data::Bases;
 use reference::{Part, Refusal, Side, Slice};
 
 extern "C" {
@@ -43,7 +44,59 @@ extern "C" {
         u_len: usize,
     ) -> bool;
     fn sstable_scylla_read(file: *const u8, file_len: usize, answer: *mut [u64; 14]);
+    fn sstable_step(
+        schema: *const u8,
+        schema_len: usize,
+        bases: *const [u64; 3],
+        data: *const u8,
+        data_len: usize,
+        state: *mut [u64; 16],
+        answer: *mut [u64; 15],
+    );
+    fn sstable_value(
+        kind: u64,
+        offset: usize,
+        length: usize,
+        data: *const u8,
+        data_len: usize,
+        answer: *mut [u64; 2],
+    );
+    fn sstable_count(
+        schema: *const u8,
+        schema_len: usize,
+        bases: *const [u64; 3],
+        data: *const u8,
+        data_len: usize,
+        answer: *mut [u64; 4],
+    );
+    fn sstable_list(
+        schema: *const u8,
+        schema_len: usize,
+        bases: *const [u64; 3],
+        data: *const u8,
+        data_len: usize,
+        out: *mut u8,
+        out_len: usize,
+        answer: *mut [u64; 4],
+    );
 }
+
+/// A schema, bases and Data, as the calls for Data take them: the bases are
+/// timestamp (its signed number's bits), local deletion time and TTL.
+#[derive(Clone, Copy)]
+pub struct Table<'a> {
+    pub schema: &'a [u8],
+    pub bases: &'a [u64; 3],
+    pub data: &'a [u8],
+}
+
+/// Bases as words.
+pub fn bases_words(bases: Bases) -> [u64; 3] {
+    [bases.timestamp as u64, bases.local as u64, bases.ttl as u64]
+}
+
+/// The walk's state, in words.
+pub type State = [u64; 16];
 
 /// Why a call has no answer.
 #[derive(Debug, PartialEq, Eq)]
@@ -171,6 +224,123 @@ pub fn scylla_read(file: &[u8]) -> Answer<[u64; 11]> {
         unsafe { sstable_scylla_read(file.as_ptr(), file.len(), words) }
     })?;
     taken(&words).map(|rest| rest.try_into().expect("eleven words"))
+}
+
+/// One step of the walk: the item's twelve words, or nothing where none is left.
+/// The state is another one only behind an item.
+pub fn step(table: Table, state: &mut State) -> Answer<Option<[u64; 12]>> {
+    let mut lent = *state;
+    let words = asked::<15>(|words| step_words(table, &mut lent, words))?;
+    let item: [u64; 12] = match taken(&words) {
+        Ok(rest) => rest.try_into().expect("twelve words"),
+        Err(_) if lent != *state => {
+            return Err(Fault::Broken("state changed by a refusal".into()));
+        }
+        Err(fault) => return Err(fault),
+    };
+    match item[0] {
+        0 if item != [0; 12] => Err(Fault::Broken(format!("words {words:?}"))),
+        0 if lent != *state => Err(Fault::Broken("state changed without an item".into())),
+        0 => Ok(None),
+        _ => {
+            *state = lent;
+            Ok(Some(item))
+        }
+    }
+}
+
+/// The same, the answer's words as they are.
+#[inline]
+pub fn step_words(table: Table, state: &mut State, words: &mut [u64; 15]) {
+    let Table {
+        schema,
+        bases,
+        data,
+    } = table;
+    // SAFETY: pointers and lengths are those of slices and arrays, of which
+    // state and answer are lent for writing.
+    unsafe {
+        sstable_step(
+            schema.as_ptr(),
+            schema.len(),
+            bases,
+            data.as_ptr(),
+            data.len(),
+            state,
+            words,
+        )
+    }
+}
+
+/// The part of `data` that an item of this kind, offset and length shows.
+pub fn value(kind: u64, offset: u64, length: u64, data: &[u8]) -> Answer<&[u8]> {
+    let [at, len] = asked::<2>(|words| {
+        // SAFETY: pointer and length are those of a slice, and the answer has
+        // room for two words.
+        unsafe {
+            sstable_value(
+                kind,
+                offset as usize,
+                length as usize,
+                data.as_ptr(),
+                data.len(),
+                words,
+            )
+        }
+    })?;
+    let end = at.checked_add(len).filter(|_| len != 0 || at == 0);
+    end.and_then(|end| data.get(at as usize..end as usize))
+        .ok_or_else(|| Fault::Broken(format!("value at {at}, {len} bytes")))
+}
+
+/// How many records Data has.
+pub fn count(table: Table) -> Answer<usize> {
+    let Table {
+        schema,
+        bases,
+        data,
+    } = table;
+    let words = asked::<4>(|words| {
+        // SAFETY: pointers and lengths are those of slices, and the answer has
+        // room for four words.
+        unsafe {
+            sstable_count(
+                schema.as_ptr(),
+                schema.len(),
+                bases,
+                data.as_ptr(),
+                data.len(),
+                words,
+            )
+        }
+    })?;
+    taken(&words).map(|rest| rest[0] as usize)
+}
+
+/// Lists Data into `out`: how many records were stored.
+pub fn list(table: Table, out: &mut [u8]) -> Answer<usize> {
+    let Table {
+        schema,
+        bases,
+        data,
+    } = table;
+    let words = asked::<4>(|words| {
+        // SAFETY: pointers and lengths are those of slices, the last lent for
+        // writing, and the answer has room for four words.
+        unsafe {
+            sstable_list(
+                schema.as_ptr(),
+                schema.len(),
+                bases,
+                data.as_ptr(),
+                data.len(),
+                out.as_mut_ptr(),
+                out.len(),
+                words,
+            )
+        }
+    })?;
+    taken(&words).map(|rest| rest[0] as usize)
 }
 
 /// Lends `call` an answer of N words; those behind it must stay as they are.

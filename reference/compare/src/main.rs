@@ -16,7 +16,7 @@ const USAGE: &str = "usage:
   compare batch FILE [--full]
   compare cases [DIR]
   compare folder DIR
-  compare bench";
+  compare bench [PART]";
 
 /// Why a command ends with status 1.
 pub struct Failed {
@@ -63,7 +63,8 @@ fn command(words: &[&str]) -> Result<(), Failed> {
         ["cases"] => stored::cases(Path::new(concat!(env!("CARGO_MANIFEST_DIR"), "/../cases"))),
         ["cases", dir] => stored::cases(Path::new(dir)),
         ["folder", dir] => folder::folder(Path::new(dir)),
-        ["bench"] => bench::bench(),
+        ["bench"] => bench::bench(None),
+        ["bench", part] => bench::bench(Some(part)),
         _ => Err(Failed::new(USAGE)),
     }
 }

@@ -28,8 +28,12 @@ fn try_answer(call: &Call, full: bool) -> Result<String, Refusal> {
         }
         Call::Scylla { scylla } => Ok(scylla_line(&read_scylla(scylla)?)),
         Call::List { .. } | Call::ListRaw { .. } => listed(call, full),
-        Call::WalkRaw { source } => Ok(walk_line(&source, full)),
-        Call::StepRaw { source, state } => step_line(&source, state),
+        Call::WalkRaw { source } => {
+            let mut items = Vec::new();
+            let end = walk_items(&source, &mut items);
+            Ok(walk_line(&items, end.err(), full))
+        }
+        Call::StepRaw { source, state } => step(&source, state),
         Call::Varint { bytes, at, end } => {
             let (value, next) = varint::read_at(bytes, at, end)?;
             Ok(varint_line(value, next - at))
@@ -218,26 +222,23 @@ pub fn scylla_line(info: &ScyllaInfo) -> String {
     line
 }
 
-/// Steps from the start; a refusal stands behind the items before it.
-fn walk_line(source: &Raw, full: bool) -> String {
-    let mut items = Vec::new();
-    let end = match walk_items(source, &mut items) {
-        Ok(()) => "end".to_string(),
-        Err(refusal) => refusal.to_string(),
-    };
+/// A walk's items, and the refusal behind them, if there is one.
+pub fn walk_line(items: &[(Record, Vec<u8>)], refusal: Option<Refusal>, full: bool) -> String {
+    let end = refusal.map_or("end".to_string(), |refusal| refusal.to_string());
     let bytes: Vec<u8> = items
         .iter()
         .flat_map(|(r, v)| [&r.to_bytes()[..], v].concat())
         .collect();
     let mut line = format!("ok walk {} {:016x} {end}", items.len(), fnv(&bytes));
     if full {
-        for (record, value) in &items {
+        for (record, value) in items {
             line.push_str(&format!(" | {} {}", record.print(), shown(value)));
         }
     }
     line
 }
 
+/// Steps from the start; on a refusal `items` has those before it.
 fn walk_items(raw: &Raw, items: &mut Vec<(Record, Vec<u8>)>) -> Result<(), Refusal> {
     let schema = check_call(raw.schema, raw.bases, raw.data)?;
     let source = Source {
@@ -254,7 +255,7 @@ fn walk_items(raw: &Raw, items: &mut Vec<(Record, Vec<u8>)>) -> Result<(), Refus
 }
 
 /// One step from any state.
-fn step_line(raw: &Raw, from: State) -> Result<String, Refusal> {
+fn step(raw: &Raw, from: State) -> Result<String, Refusal> {
     let schema = check_call(raw.schema, raw.bases, raw.data)?;
     let source = Source {
         schema: &schema,
@@ -262,12 +263,18 @@ fn step_line(raw: &Raw, from: State) -> Result<String, Refusal> {
         data: raw.data,
     };
     Ok(match from.step(&source)? {
-        Step::Done => "ok step done".into(),
-        Step::Next(Item { record, value }, next) => {
-            let next = state::words(&next);
-            format!("ok step {} {} -> {next}", record.print(), shown(value))
-        }
+        Step::Done => DONE.into(),
+        Step::Next(Item { record, value }, next) => step_line(&record, value, &next),
     })
+}
+
+/// A step where nothing is left.
+pub const DONE: &str = "ok step done";
+
+/// A step that hands out an item.
+pub fn step_line(record: &Record, value: &[u8], next: &State) -> String {
+    let next = state::words(next);
+    format!("ok step {} {} -> {next}", record.print(), shown(value))
 }
 
 fn shown(value: &[u8]) -> String {

@@ -10,7 +10,7 @@ pub const LEN: usize = 73;
 
 /// 0 partition, 1 first item, 2 item, 3 row's values, 4 marker's prefix, 5
 /// static cells, 6 cells.
-fn phase_number(state: &State) -> u8 {
+pub fn phase_number(state: &State) -> u8 {
     match state.phase {
         Phase::Partition => 0,
         Phase::First => 1,
@@ -20,7 +20,7 @@ fn phase_number(state: &State) -> u8 {
     }
 }
 
-fn phase_of(number: u64) -> Option<Phase> {
+pub fn phase_of(number: u64) -> Option<Phase> {
     Some(match number {
         0 => Phase::Partition,
         1 => Phase::First,

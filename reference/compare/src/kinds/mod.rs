@@ -10,11 +10,16 @@ use reference::rng::Rng;
 use crate::library::Answer;
 
 mod damage;
+mod list;
 mod schema;
 mod scylla;
+mod states;
 mod statistics;
+mod step;
+mod tables;
 mod type_strings;
 mod varint;
+mod walk;
 
 /// One kind of calls.
 pub trait Kind {
@@ -34,8 +39,28 @@ pub trait Kind {
         answer(call, full)
     }
 
+    /// Whether both answer the same, and if so whether the call is accepted.
+    fn compare(&self, call: &Call) -> Compared {
+        let library = self.library(call, true).expect("a call of its own kind");
+        let reference = self.reference(call, true);
+        if library == reference {
+            return Compared::Same(reference.starts_with("ok "));
+        }
+        Compared::Different { library, reference }
+    }
+
     /// Calls with slices at and over the limit, which no container holds.
     fn limits(&self) -> Vec<Limit>;
+}
+
+/// What comparing one call shows.
+pub enum Compared {
+    /// The same answers, of a call that is accepted or not.
+    Same(bool),
+    Different {
+        library: String,
+        reference: String,
+    },
 }
 
 /// A call at the limit: what it is, and both answers.
@@ -52,6 +77,9 @@ pub fn all() -> Vec<Box<dyn Kind>> {
         Box::new(statistics::Statistics),
         Box::new(schema::Schema),
         Box::new(scylla::Scylla),
+        Box::new(list::List),
+        Box::new(walk::Walk),
+        Box::new(step::Step),
     ]
 }
 
