@@ -1,7 +1,7 @@
 use Rattle.schema.proofs.Fields.{gives-record}
 use borrow.Author.Needs.{needs}
-use Rattle.schema.proofs.records.is_given.Statement.{statement}
-use Rattle.schema.proofs.records.is_given.Tie as tie
+use Rattle.schema.proofs.records.is_given_column.Statement.{statement}
+use Rattle.schema.proofs.records.is_given_column.Tie as tie
 
 shared-slice-read-role : tie.Need-shared-slice-read-role
 shared-slice-read-role c = search needs
@@ -57,8 +57,8 @@ returns-2 c = search (gives-record, needs)
 returns-3 : tie.Need-returns-3
 returns-3 c = search (gives-record, needs)
 
-pub is-given-spec : {M : Type 1} → statement M
-is-given-spec =
+pub is-given-column-spec : {M : Type 1} → statement M
+is-given-column-spec =
     tie.close
     (tie.spec
     shared-slice-read-role
