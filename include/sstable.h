@@ -89,6 +89,19 @@ void sstable_step(const uint8_t *schema, size_t schema_len, const uint64_t bases
  * Words (there is no refusal): 0 offset, 1 length; 0, 0 where it is empty, where the kind has none, or where the place is outside data. */
 void sstable_value(uint64_t kind, size_t offset, size_t length, const uint8_t *data, size_t data_len, uint64_t answer[2]);
 
+/* How many records the listing of `data` has, or the refusal that it gives. Empty Data has none.
+ * Words: 3 the count. */
+void sstable_count(const uint8_t *schema, size_t schema_len, const uint64_t bases[3], const uint8_t *data, size_t data_len,
+                   uint64_t answer[4]);
+
+/* Lists `data` into the start of `out`: a 64-byte record for each item, in the walk's order. Numbers in it are big-endian: at byte 0 kind, 1 flags,
+ * 2 column (one byte each), 4 TTL, 8 timestamp, 16 mark, 24 its local time, 28 expiry, 32 second mark, 40 second local time, 48 offset, 56
+ * length; bytes 3 and 44 to 47 are zero. Refuses after all else, in output: 13 with the bytes needed, 64 for each record. Only where it is
+ * taken is `out` changed, and then not behind the records.
+ * Words: 3 how many records were stored. */
+void sstable_list(const uint8_t *schema, size_t schema_len, const uint64_t bases[3], const uint8_t *data, size_t data_len,
+                  uint8_t *out, size_t out_len, uint64_t answer[4]);
+
 #ifdef __cplusplus
 }
 #endif

@@ -14,9 +14,12 @@ mod data;
 const SIZE: usize = 100_000_000;
 const ROUNDS: u32 = 5;
 
+/// A part of the bench: its name, and what it does.
+type Part = (&'static str, fn() -> Result<(), Failed>);
+
 /// All of it, or the part named.
 pub fn bench(part: Option<&str>) -> Result<(), Failed> {
-    let parts: [(&str, fn() -> Result<(), Failed>); 3] = [
+    let parts: [Part; 3] = [
         ("varints", all_varints),
         ("statistics", all_statistics),
         ("data", data::bench),

@@ -161,6 +161,19 @@ mod tests {
     }
 
     #[test]
+    fn every_outcome_of_data_is_met() {
+        let data = ["2", "3", "4", "5", "6", "7"].map(|number| format!("{number} data"));
+        let tables = ["5 bases", "10 schema"].map(String::from);
+        let of = |words: &[&str]| -> BTreeSet<String> {
+            let words = words.iter().map(|word| word.to_string());
+            words.chain(data.clone()).chain(tables.clone()).collect()
+        };
+        assert_eq!(outcomes("list"), of(&["ok list", "13 output"]));
+        assert_eq!(outcomes("step"), of(&["ok step", "10 state"]));
+        assert_eq!(outcomes("walk"), ["ok walk".to_string()].into());
+    }
+
+    #[test]
     fn a_case_depends_on_seed_and_index_alone() {
         for kind in kinds::all() {
             let made: Vec<Case> = (0..50).map(|i| case_of(kind.as_ref(), 3, i)).collect();

@@ -73,7 +73,9 @@ fn bench_kind(what: &str, partition: usize) -> Result<(), Failed> {
     );
     listed.tell(what, "listing")?;
     if out != records.as_flattened() {
-        return Err(Failed::new(format!("{what}: the library lists other records")));
+        return Err(Failed::new(format!(
+            "{what}: the library lists other records"
+        )));
     }
     race(|| library_steps(table), || reference_steps(&source)).tell(what, "single steps")
 }

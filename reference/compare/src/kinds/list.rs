@@ -145,7 +145,9 @@ fn within(raw: Raw, output: Option<usize>) -> Answer<Vec<[u8; LEN]>> {
             return Err(Fault::Broken(what));
         }
     }
-    let (records, rest) = stored.as_ref().map_or((&[][..], &[][..]), |b| b.as_chunks());
+    let (records, rest) = stored
+        .as_ref()
+        .map_or((&[][..], &[][..]), |b| b.as_chunks());
     assert!(rest.is_empty());
     let records = records.to_vec();
     stored.map(|_| records)
@@ -166,18 +168,46 @@ fn over_limit() -> Vec<Limit> {
     let mut limits = Vec::new();
     let bad = [0, 0, u64::MAX];
     let wrong = "refused 1 schema 0";
-    limits.push(listed("schema of 1073741825 bytes", &over, &bad, &over, wrong));
+    limits.push(listed(
+        "schema of 1073741825 bytes",
+        &over,
+        &bad,
+        &over,
+        wrong,
+    ));
     let wrong = "refused 1 data 0";
     limits.push(listed("Data of 1073741825 bytes", &key, &bad, &over, wrong));
     let wrong = "refused 5 bases 0";
-    limits.push(listed("Data of 1073741824 bytes", &key, &bad, &over[..LIMIT], wrong));
+    limits.push(listed(
+        "Data of 1073741824 bytes",
+        &key,
+        &bad,
+        &over[..LIMIT],
+        wrong,
+    ));
     // A partition without a key, deleted, and flags that are none.
     over[14] = 0x40;
     let wrong = "refused 4 data 14";
-    limits.push(listed("Data of 1073741824 bytes", &key, &[0; 3], &over[..LIMIT], wrong));
+    limits.push(listed(
+        "Data of 1073741824 bytes",
+        &key,
+        &[0; 3],
+        &over[..LIMIT],
+        wrong,
+    ));
     for (what, len, bases, wrong) in [
-        ("output of 1073741825 bytes", LIMIT + 1, bad, "refused 1 output 0"),
-        ("output of 1073741824 bytes", LIMIT, bad, "refused 5 bases 0"),
+        (
+            "output of 1073741825 bytes",
+            LIMIT + 1,
+            bad,
+            "refused 1 output 0",
+        ),
+        (
+            "output of 1073741824 bytes",
+            LIMIT,
+            bad,
+            "refused 5 bases 0",
+        ),
         ("output of 1073741824 bytes", LIMIT, [0; 3], "0 records"),
     ] {
         let table = library::Table {
@@ -210,7 +240,11 @@ fn listed(
     let listed = shown(library::list(table, &mut []));
     Limit {
         what,
-        library: if counted == listed { listed } else { format!("{listed}, counted {counted}") },
+        library: if counted == listed {
+            listed
+        } else {
+            format!("{listed}, counted {counted}")
+        },
         reference: reference.into(),
     }
 }

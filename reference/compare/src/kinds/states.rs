@@ -153,3 +153,21 @@ impl<'a> Lent<'a> {
         }
     }
 }
+
+#[cfg(test)]
+mod tests {
+    use super::*;
+
+    #[test]
+    fn states_round_trip() {
+        assert_eq!(words_of(&State::start()), [0; 16]);
+        for number in 0..7 {
+            let words = [number, 1, 2, 1, 3, 4, 5, 6, 7, 8, 9, 1, 10, 1, 11, 12];
+            let state = state_of(&words).expect("a state");
+            assert_eq!(words_of(&state), words);
+        }
+        let wide = [0, 0, 256, 0, 0, 0, 0, 0, 0, 0, 0, 0, 0, 0, 0, 0];
+        assert_eq!(state_of(&wide), None);
+        assert_eq!(state_of(&[7; 16]), None);
+    }
+}

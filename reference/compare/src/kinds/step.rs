@@ -100,8 +100,8 @@ fn told(raw: Raw, mut words: library::State) -> Told {
     Told { line, next }
 }
 
-/// The step from the same state, its yes in another number than 1, and numbers
-/// that no part of it.
+/// The step from the same state, with another number than 1 for each yes, and
+/// other numbers where it holds none.
 fn told_of_loose(raw: Raw, state: &State) -> Told {
     let mut words = words_of(state);
     for (flag, numbers) in [(3, 4..=5), (11, 12..=12), (13, 14..=15)] {
