@@ -37,19 +37,19 @@ module _ (limit : ℕ) (s : List ℕ) (at : ℕ) (k : Bool) (e : k ≡ isKindOf 
 
   -- of a key or clustering column, whose name's place is 0, 0
   module _ (f : k ≡ true) (low : getD s at 0 ≤ 1) (name : ℕ) (g : name ≡ bigEndian 0 s (at + 4) 4) where
-    is-named : (len : ℕ) → len ≡ bigEndian 0 s (at + 8) 4 → (b : Bool) → b ≡ pick (eqb name 0) (eqb len 0) false → b ≡ isNameOf limit (getD s at 0) name len
+    is-named : (len : ℕ) (b : Bool) → b ≡ pick (eqb name 0) (eqb len 0) false → b ≡ isNameOf limit (getD s at 0) name len
     unfolding isNameOf
-    is-named len h b i = pick-yes _ _ _ _ (lt-ltb (getD s at 0) 2 (omega (arith, low))) i
+    is-named len b i = pick-yes _ _ _ _ (lt-ltb (getD s at 0) 2 (omega (arith, low))) i
 
     pub given-key-name : (name ≡ 0 → ⊥) → false ≡ given limit s at
-    given-key-name n = given-name f name (bigEndian 0 s (at + 8) 4) false g refl (is-named _ refl false (pick-no _ _ _ _ (ne-eqb _ _ n) refl)) refl
+    given-key-name n = given-name f name (bigEndian 0 s (at + 8) 4) false g refl (is-named _ false (pick-no _ _ _ _ (ne-eqb _ _ n) refl)) refl
 
     module _ (z : name ≡ 0) (len : ℕ) (h : len ≡ bigEndian 0 s (at + 8) 4) where
       pub given-key-len : (len ≡ 0 → ⊥) → false ≡ given limit s at
-      given-key-len n = given-name f name len false g h (is-named len h false (pick-yes _ _ _ _ (eq-eqb _ _ z) (sym (ne-eqb _ _ n)))) refl
+      given-key-len n = given-name f name len false g h (is-named len false (pick-yes _ _ _ _ (eq-eqb _ _ z) (sym (ne-eqb _ _ n)))) refl
 
       pub given-key-all : len ≡ 0 → (x : ℕ) → x ≡ bigEndian 0 s (at + 12) 4 → eqb x 0 ≡ given limit s at
-      given-key-all y x l = given-all f name len true g h (is-named len h true (pick-yes _ _ _ _ (eq-eqb _ _ z) (sym (eq-eqb _ _ y)))) x refl l
+      given-key-all y x l = given-all f name len true g h (is-named len true (pick-yes _ _ _ _ (eq-eqb _ _ z) (sym (eq-eqb _ _ y)))) x refl l
 
 pub ruleset gives-record = (given-kind, given-name, given-all)
 
