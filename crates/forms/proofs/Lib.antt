@@ -1,3 +1,4 @@
 pub mod Fields
 pub mod Cells
+pub mod Clusterings
 pub mod Vectors
