@@ -1,4 +1,5 @@
 pub mod Fields
 pub mod Cells
 pub mod Clusterings
+pub mod Rows
 pub mod Vectors
