@@ -289,7 +289,7 @@ module _ (s : List ℕ) (b : Bases) (ws : List ℕ) (r : RowView) (x f : ℕ) (f
   abbrev cells : List ℕ
   cells = cellsBytes b (r .times) ws (r .cells)
 
-  abbrev bodyIs : ℕ → Body
+  abbrev pub bodyIs : ℕ → Body
   bodyIs stop = body stop (r .times) (r .deletion) (presentOf (r .cells))
 
   content-back : (end at n stop : ℕ) → Stands s end at n (contentBytes b ws r) → (m : ℕ) × (Reads (contentAt b (length ws) f stop s at end) m (λ y. y ≡ bodyIs stop) × Stands s end m n cells)
@@ -318,7 +318,7 @@ module _ (s : List ℕ) (b : Bases) (ws : List ℕ) (r : RowView) (x f : ℕ) (f
       (c .0, (reads-at _ (sizes-back s end at n previous w short small h) (c .1 .0), c .1 .1))
 
   -- what stands behind flags and extended byte, up to the first cell
-  abbrev Shows : List ℕ → List (List ℕ) → ℕ → ℕ → ℕ → Row → Type 0
+  abbrev pub Shows : List ℕ → List (List ℕ) → ℕ → ℕ → ℕ → Row → Type 0
   Shows cs vs end q n y = (y .extended ≡ x) × (y .body ≡ bodyIs n) × Reads (valuesAt cs (y .prefix .header) s (y .prefix .values) end) q (λ xs. showValues s xs ≡ vs)
 
   pub rest-back : (cs : List ℕ) (vs : List (List ℕ)) (end at n previous start : ℕ) → length cs ≤ 32 → ValuesFit cs vs → length s < 2 ^ 64 → previous < 2 ^ 64
