@@ -4,4 +4,6 @@ pub mod Clusterings
 pub mod Rows
 pub mod RowEntries
 pub mod Markers
+pub mod Partitions
+pub mod Whole
 pub mod Vectors
