@@ -6,4 +6,5 @@ pub mod RowEntries
 pub mod Markers
 pub mod Partitions
 pub mod Whole
+pub mod Fits
 pub mod Vectors
