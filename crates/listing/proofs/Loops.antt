@@ -15,6 +15,16 @@ use Rattle.wire.specs.declared.refusal.Refusal.{Refusal}
 use Rattle.wire.specs.declared.times.Bases.{Bases}
 use Rattle.wire.proofs.BigEndian.{length-bytesOf}
 use Rattle.wire.proofs.Splices.{Filling, filling-none, filling-all, filling-fits, filling-more}
+use Rattle.wire.specs.Got.{Got, got, bad, saidNum}
+use Rattle.wire.specs.declared.refusal.Fault.{Fault}
+use Rattle.wire.specs.declared.refusal.Slice.the-variants.{Data}
+use Rattle.wire.specs.declared.number.Num.{Num}
+use Rattle.wire.specs.declared.number.Num.the-variants.{Number, Refused as num-refused}
+use Rattle.wire.proofs.Said.{num-got}
+use Rattle.contents.specs.Contents.{Contents, widthsOf, contentsAt, contentsOf, listed, listing as contents-listing}
+use Rattle.contents.proofs.Lists.{walk-lists}
+use Rattle.counting.specs.Counted.{contentsCounted}
+use Rattle.counting.proofs.Follows.{num-bad}
 use Rattle.schema.specs.declared.records.Counts.{Counts}
 use Rattle.walk.specs.Cursors.{atItems}
 use Rattle.walk.specs.Steps.{Answer, stepIn, saidStep}
@@ -41,11 +51,6 @@ length-recordsOf [] = refl
 length-recordsOf (i ∷ l) = rw (length-append (recordOf i) (recordsOf l), length-recordOf i) (omega (arith, length-recordsOf l))
 
 -- ---- the walk unfolds by a step's answer
-counted-add : (n : ℕ) (i : Item) (x : Outcome (List Item)) → counted n (add i x) ≡ counted (n + 1) x
-unfolding counted add
-counted-add n i (taken l) = let e : n + suc (length l) ≡ n + 1 + length l = omega arith in rw e
-counted-add n i (refused f z p) = refl
-
 module _ (c : List ℕ) (k : Counts) (b : Bases) (s : List ℕ) (t : Table (length c) k) (x : Cursor) (r : Step) (e : saidStep r ≡ stepIn (x .phase) c k b s x) where
   walk-next : (i : Item) (y : Cursor) → r ≡ Next i y → walkFrom c k b s x ≡ add i (walkFrom c k b s y)
   unfolding follow saidStep
@@ -63,38 +68,30 @@ module _ (c : List ℕ) (k : Counts) (b : Bases) (s : List ℕ) (t : Table (leng
   unfolding saidStep
   next-less i y f = step-moves c k b s x y i t (sym e ∙ rw f refl)
 
--- ---- counting: n items stand before x
-pub record Counting (c : List ℕ) (k : Counts) (b : Bases) (s : List ℕ) (x : Cursor) (n : ℕ) : Type 0 where
-  pub below : n + remaining (length s) x ≤ 128 * length s
-  pub rest : counted n (walkFrom c k b s x) ≡ counted 0 (walkFrom c k b s start)
+-- ---- what is counted
+all-said : (x : Got (List Contents)) (v n : ℕ) → contentsCounted 0 x ≡ got v n → saidListed (Records v) ≡ counted 0 (contents-listing x)
+unfolding contentsCounted saidListed counted contents-listing
+all-said (got ps m) v n e = let f : 0 + length (listed ps) ≡ v = cc in ap taken (sym f)
+all-said (bad f p) v n e = let z : _≡_ {A = ℕ} 0 1 = cc in absurd (omega arith)
 
-start-remains : (len : ℕ) → remaining len start ≤ 128 * len
-unfolding remaining start atItems bind
-start-remains len = omega arith
+bad-said : (x : Got (List Contents)) (f : Fault) (p : ℕ) → contentsCounted 0 x ≡ bad f p → saidListed (Refused (record { fault = f; slice = Data; place = p })) ≡ counted 0 (contents-listing x)
+unfolding contentsCounted saidListed counted contents-listing
+bad-said (got ps m) f p e = let z : _≡_ {A = ℕ} 0 1 = cc in absurd (omega arith)
+bad-said (bad g q) f p e =
+    let h : g ≡ f = cc in
+    let i : q ≡ p = cc in
+    rw (h, i) refl
 
-pub counting-none : (c : List ℕ) (k : Counts) (b : Bases) (s : List ℕ) (x : Cursor) → x ≡ start → Counting c k b s x 0
-counting-none c k b s x e = record { below = rw e (omega (arith, start-remains (length s))); rest = rw e refl }
+module _ (c : List ℕ) (k : Counts) (b : Bases) (s : List ℕ) (t : Table (length c) k) (q : Num) (e : saidNum q ≡ contentsCounted 0 (contentsAt (widthsOf c k) b s 0 (length s))) where
+  pub counts-all : (v n : ℕ) → q ≡ Number v n → saidListed (Records v) ≡ counted 0 (walkFrom c k b s start)
+  unfolding contentsOf
+  counts-all v n f = rw (walk-lists c k b s t) (all-said _ v n (num-got q _ v n e f))
 
-module _ (c : List ℕ) (k : Counts) (b : Bases) (s : List ℕ) (t : Table (length c) k) (x : Cursor) (n : ℕ) (h : Counting c k b s x n) (r : Step)
-    (e : saidStep r ≡ stepIn (x .phase) c k b s x) where
-  pub counting-fits : (i : Item) (y : Cursor) → r ≡ Next i y → length s ≤ 1073741824 → Fits w64 (n + 1)
-  counting-fits i y f l = omega (arith, h .below, next-less c k b s t x r e i y f)
+  pub counts-bad : (f : Fault) (p : ℕ) → q ≡ num-refused f p → saidListed (Refused (record { fault = f; slice = Data; place = p })) ≡ counted 0 (walkFrom c k b s start)
+  unfolding contentsOf
+  counts-bad f p g = rw (walk-lists c k b s t) (bad-said _ f p (num-bad q _ f p e g))
 
-  pub counting-more : (i : Item) (y : Cursor) → r ≡ Next i y → Counting c k b s y (n + 1)
-  counting-more i y f = record {
-    below = omega (arith, h .below, next-less c k b s t x r e i y f);
-    rest = sym (counted-add n i (walkFrom c k b s y)) ∙ (rw (← walk-next c k b s t x r e i y f) (h .rest));
-  }
-
-  pub counting-done : r ≡ Done → saidListed (Records n) ≡ counted 0 (walkFrom c k b s start)
-  unfolding saidListed counted
-  counting-done f = let g : n ≡ n + 0 = omega arith in ap taken g ∙ (rw (walk-done c k b s t x r e f) at (h .rest))
-
-  pub counting-refused : (q : Refusal) → r ≡ step-refused q → saidListed (Refused q) ≡ counted 0 (walkFrom c k b s start)
-  unfolding saidListed counted
-  counting-refused q f = rw (walk-refused c k b s t x r e q f) at (h .rest)
-
-pub ruleset counting = (counting-none, counting-fits, counting-more, counting-done, counting-refused, next-less)
+pub ruleset counting = (counts-all, counts-bad, refl)
 
 -- ---- what a list of items that is not refused tells
 added : (i : Item) (l m : List Item) → add i (taken l) ≡ taken m → m ≡ i ∷ l

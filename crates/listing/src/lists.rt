@@ -10,12 +10,14 @@ ghost use Rattle.walk.specs.Tables.{Table};
 ghost use Rattle.walk.specs.Walks.{start, walkFrom};
 ghost use Rattle.listing.specs.Lists.{listAt, counted, recordBytes, saidListed, Ready, Lists};
 use crate::records;
+use counting::counts;
 use schema::records::Checked;
 use schema::records::Counts;
 use walk::cursors::Cursor;
 use walk::steps;
 use walk::steps::Step;
 use walk::tables;
+use wire::number::Num;
 use wire::refusal::Fault;
 use wire::refusal::Refusal;
 use wire::refusal::Slice;
@@ -44,21 +46,13 @@ fn count_in(c: &[u8], k: Counts, b: Bases, s: &[u8]) -> Listed
     requires { ⌜ Table (length (now c)) k × (length (now s) ≤ 1073741824) ⌝ }
     ensures { λ r. ⌜ saidListed r ≡ counted 0 (walkFrom (now (c .entry)) k b (now (s .entry)) start) ⌝ }
 {
-    let mut x = Cursor::start();
-    let mut n: usize = 0;
-    loop {
-        match steps::step_in(c, k, b, s, x) {
-            Step::Next { item: _, cursor } => {
-                x = cursor;
-                n += 1;
-            }
-            Step::Done => {
-                return Listed::Records(n);
-            }
-            Step::Refused(refusal) => {
-                return Listed::Refused(refusal);
-            }
-        }
+    match counts::count_contents(c, k, b, s) {
+        Num::Number { value, next: _ } => Listed::Records(value as usize),
+        Num::Refused { fault, place } => Listed::Refused(Refusal {
+            fault,
+            slice: Slice::Data,
+            place,
+        }),
     }
 }
 

@@ -1,0 +1,2 @@
+// How many items Data lists.
+pub mod counts; // counts.rt: the loops over cells, entries and partitions
