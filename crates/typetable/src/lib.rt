@@ -83,7 +83,7 @@ pub fn takes_parameters(line: u8) -> bool
     match line {
         // ColumnToCollection, Composite, DynamicComposite, Frozen, List, Map, PartitionerDefinedOrder, Reversed, Set, Tuple, User
         5 | 6 | 12 | 15 | 20 | 22 | 23 | 24 | 25 | 31 | 32 => true,
-        _ => false,
+        _ => false, // all others
     }
 }
 
@@ -113,7 +113,7 @@ pub fn is_ordered(line: u8) -> bool
     }
     match line {
         1 | 2 | 3 | 17 | 21 | 28 | 33 => true, // Ascii, Boolean, Bytes, Int32, Long, Timestamp, UTF8
-        _ => false,
+        _ => false, // no order
     }
 }
 
