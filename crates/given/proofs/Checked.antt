@@ -10,8 +10,8 @@ use lib.Dec.{ltb, eqb}
 use lib.ListN.{length}
 use Rattle.wire.specs.Choose.{pick, bind}
 use Rattle.wire.proofs.Gives.{Gives, gives-on, gives-got, gives-bad, gives-pick}
-use Rattle.typetable.specs.Table.{lineOf, noLine, isLine}
-use Rattle.typetable.proofs.Rows.{line-yes, row-outside}
+use Rattle.typetable.specs.Table.{Line, lineOf, noLine, isLine}
+use Rattle.typetable.proofs.Rows.{line-yes, none-at}
 use Rattle.types.proofs.Carried.{carried-is}
 use Rattle.schema.specs.Records.{roleAt, lineAt, markAt, widthAt, nameAt, nameLenAt, zerosAt, isLineOf, isNameOf, isKindOf, given, none, inTurn, withOne, recordAt, recordsAt, schemaAt}
 use Rattle.schema.specs.Columns.{columnAt}
@@ -56,11 +56,12 @@ unfolding lineOf noLine
 no-zero = refl
 
 column-line : (l : ℕ) → lineOf l .column ≡ true → isLine l ≡ true
+unfolding noLine
 column-line zero e = let z : true ≡ false = sym e ∙ no-zero in cc
 column-line (suc l) e = go (decLt 34 (suc l))
   where
     go : Dec (34 < suc l) → isLine (suc l) ≡ true
-    go (yes h) = let z : false ≡ true = row-outside (suc l) h .column ∙ e in cc
+    go (yes h) = let z : false ≡ true = ap (λ (x : Line). x .column) (none-at (suc l) h) ∙ e in cc
     go (no h) = sym (line-yes (suc l) (omega arith) (omega arith))
 
 -- ---- the type of a record

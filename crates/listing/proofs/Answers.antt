@@ -27,6 +27,9 @@ use Rattle.walk.specs.Tables.{Table, after, tableAt}
 use Rattle.walk.specs.Walks.{start, remaining, add, follow, walkIn, walkFrom}
 use Rattle.walk.specs.declared.items.Item.{Item}
 use Rattle.walk.specs.declared.cursors.Cursor.{Cursor}
+use Rattle.walk.proofs.Schemas.{told-table}
+use Rattle.contents.specs.Contents.{contentsOf}
+use Rattle.contents.proofs.Lists.{walk-lists}
 use Rattle.listing.specs.Lists.{listAt, counted, fitted, recordBytes, kept, saidListed, Ready, Lists}
 use Rattle.listing.specs.declared.lists.Listed.{Listed}
 use Rattle.listing.specs.declared.lists.Listed.the-variants.{Records, Refused}
@@ -111,9 +114,13 @@ count-fits c k b s r n e f l =
 -- ---- behind what a call tests first
 module _ (c : List ℕ) (b : Bases) (s : List ℕ) (room : ℕ) (r : Checked) (e : saidChecked r ≡ tableAt c b s room) where
   module _ (k : Counts) (f : r ≡ Counted k) where
+    -- the walk lists what Data holds
     list-is : listAt c b s room ≡ walkFrom c k b s start
     unfolding listAt after saidChecked
-    list-is = rw (← e, f) refl
+    list-is = contents-is ∙ sym (walk-lists c k b s (told-table c b s room k r e f))
+      where
+        contents-is : listAt c b s room ≡ contentsOf c k b s
+        contents-is = rw (← e, f) refl
 
     pub counts-table : (q : Listed) → saidListed q ≡ counted 0 (walkFrom c k b s start) → saidListed q ≡ counted 0 (listAt c b s room)
     counts-table q g = rw list-is g

@@ -11,15 +11,15 @@ use Rattle.wire.specs.declared.refusal.Fault.the-variants.{NoRoom}
 use Rattle.wire.specs.declared.refusal.Slice.the-variants.{Output}
 use Rattle.wire.specs.declared.times.Bases.{Bases}
 use Rattle.walk.specs.Tables.{after, tableAt}
-use Rattle.walk.specs.Walks.{start, walkFrom}
 use Rattle.walk.specs.declared.items.Item.{Item}
+use Rattle.contents.specs.Contents.{contentsOf}
 use Rattle.listing.specs.Records.{recordsOf}
 use Rattle.listing.specs.declared.lists.Listed.{Listed}
 use Rattle.listing.specs.declared.lists.Listed.the-variants.{Records, Refused}
 
 -- the items of Data in a table of the schema c and the bases b, where a buffer of room bytes is lent
 unfoldable pub listAt : List ℕ → Bases → List ℕ → ℕ → Outcome (List Item)
-listAt c b s room = after (tableAt c b s room) (λ k. walkFrom c k b s start)
+listAt c b s room = after (tableAt c b s room) (λ k. contentsOf c k b s)
 
 -- how many there are, n before them
 unfoldable pub counted : ℕ → Outcome (List Item) → Outcome ℕ

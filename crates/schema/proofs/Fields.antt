@@ -12,7 +12,7 @@ use Rattle.schema.specs.Records.{roleAt, lineAt, markAt, widthAt, nameAt
 use Rattle.schema.specs.Columns.{columnAt, columnOf, nameOf, sameColumn}
 use Rattle.wire.specs.Choose.{pick, bind}
 use lib.Dec.{ltb, eqb}
-use borrow.Author.Tests.{ltb-true, eq-eqb, ne-eqb, lt-leb}
+use borrow.Author.Tests.{ltb-true, eq-eqb, ne-eqb, lt-leb, lt-ltb}
 use mir.Syntax.{w64}
 use mir.Val.{Fits}
 use Rattle.wire.proofs.Choose.{pick-yes, pick-no}
@@ -35,7 +35,25 @@ module _ (limit : ℕ) (s : List ℕ) (at : ℕ) (k : Bool) (e : k ≡ isKindOf 
     unfolding given roleAt lineAt markAt widthAt nameAt nameLenAt zerosAt
     given-all z j l = pick-yes _ _ _ _ (sym e ∙ f) (pick-yes _ _ _ _ (rw (g, h) at (sym i ∙ j)) (ap (λ (x : ℕ). eqb x 0) l))
 
+  -- of a key or clustering column, whose name's place is 0, 0
+  module _ (f : k ≡ true) (low : getD s at 0 ≤ 1) (name : ℕ) (g : name ≡ bigEndian 0 s (at + 4) 4) where
+    is-named : (len : ℕ) (b : Bool) → b ≡ pick (eqb name 0) (eqb len 0) false → b ≡ isNameOf limit (getD s at 0) name len
+    unfolding isNameOf
+    is-named len b i = pick-yes _ _ _ _ (lt-ltb (getD s at 0) 2 (omega (arith, low))) i
+
+    pub given-key-name : (name ≡ 0 → ⊥) → false ≡ given limit s at
+    given-key-name n = given-name f name (bigEndian 0 s (at + 8) 4) false g refl (is-named _ false (pick-no _ _ _ _ (ne-eqb _ _ n) refl)) refl
+
+    module _ (z : name ≡ 0) (len : ℕ) (h : len ≡ bigEndian 0 s (at + 8) 4) where
+      pub given-key-len : (len ≡ 0 → ⊥) → false ≡ given limit s at
+      given-key-len n = given-name f name len false g h (is-named len false (pick-yes _ _ _ _ (eq-eqb _ _ z) (sym (ne-eqb _ _ n)))) refl
+
+      pub given-key-all : len ≡ 0 → (x : ℕ) → x ≡ bigEndian 0 s (at + 12) 4 → eqb x 0 ≡ given limit s at
+      given-key-all y x l = given-all f name len true g h (is-named len true (pick-yes _ _ _ _ (eq-eqb _ _ z) (sym (eq-eqb _ _ y)))) x refl l
+
 pub ruleset gives-record = (given-kind, given-name, given-all)
+
+pub ruleset gives-key = (given-kind, given-key-name, given-key-len, given-key-all)
 
 -- ---- a column
 pub column-is : (s : List ℕ) (at name len : ℕ) → name ≡ bigEndian 0 s (at + 4) 4 → len ≡ bigEndian 0 s (at + 8) 4

@@ -11,8 +11,9 @@ use mir.Syntax.{w64}
 use mir.Val.{Fits}
 use Rattle.wire.specs.Choose.{pick}
 use Rattle.wire.specs.Got.{Got, got, bad, on}
+use Rattle.wire.specs.declared.refusal.Fault.{Fault}
 use Rattle.wire.specs.declared.refusal.Fault.the-variants.{BadRecord}
-use Rattle.wire.proofs.Choose.{pick-yes, pick-no}
+use Rattle.wire.proofs.Choose.{pick-yes, pick-no, pick-ind}
 use Rattle.typetable.specs.Table.{lineOf}
 use Rattle.schema.specs.Records.{roleAt, lineAt, none, given, inTurn, withOne, recordAt, recordsAt, schemaAt, saidFound}
 use Rattle.schema.specs.Columns.{sameColumn, sameFrom, sameSchemas, unorderedFrom, unorderedOf}
@@ -21,6 +22,46 @@ use Rattle.schema.specs.declared.records.Found.{Found}
 use Rattle.schema.specs.declared.records.Found.the-variants.{Records, Bad}
 use Rattle.schema.specs.declared.columns.Unordered.{Unordered}
 use Rattle.schema.specs.declared.columns.Unordered.the-variants.{At, None}
+
+-- ---- one record
+module _ (limit : ℕ) (s : List ℕ) (c : Counts) (at : ℕ) where
+  pub record-cut : length s - at < 16 → saidFound (Bad BadRecord at) ≡ recordAt limit c s at (length s)
+  unfolding recordAt saidFound
+  record-cut k = pick-yes _ _ _ _ (lt-ltb _ _ k) refl
+
+  module _ (k : 16 ≤ length s - at) (g : Bool) (e : g ≡ given limit s at) where
+    pub record-wrong : g ≡ false → saidFound (Bad BadRecord at) ≡ recordAt limit c s at (length s)
+    unfolding recordAt saidFound
+    record-wrong f = pick-no _ _ _ _ (le-ltb _ _ k) (pick-no _ _ _ _ (sym e ∙ f) refl)
+
+    module _ (f : g ≡ true) (t : Bool) (i : t ≡ inTurn (getD s at 0) c) where
+      pub record-turn : t ≡ false → saidFound (Bad BadRecord at) ≡ recordAt limit c s at (length s)
+      unfolding recordAt roleAt saidFound
+      record-turn j = pick-no _ _ _ _ (le-ltb _ _ k) (pick-yes _ _ _ _ (sym e ∙ f) (pick-no _ _ _ _ (sym i ∙ j) refl))
+
+      pub record-more : (d : Counts) → t ≡ true → d ≡ withOne (getD s at 0) c → saidFound (Records d (at + 16)) ≡ recordAt limit c s at (length s)
+      unfolding recordAt roleAt saidFound
+      record-more d j m =
+          pick-no _ _ _ _ (le-ltb _ _ k) (pick-yes _ _ _ _ (sym e ∙ f) (pick-yes _ _ _ _ (sym i ∙ j) (ap (λ (x : Counts). got x (at + 16)) m)))
+
+  -- the next record begins 16 bytes on
+  record-next : (d : Counts) (n : ℕ) → got d n ≡ recordAt limit c s at (length s) → n ≡ at + 16
+  unfolding recordAt
+  record-next d n =
+      pick-ind P _ _ (ltb (length s - at) 16) (λ _ z. clash z) (λ _.
+      pick-ind P _ _ (given limit s at) (λ _.
+      pick-ind P _ _ (inTurn (roleAt s at) c) (λ _ z. alike z) (λ _ z. clash z)) (λ _ z. clash z))
+    where
+      P : Got Counts → Type 0
+      P x = got d n ≡ x → n ≡ at + 16
+
+      clash : got d n ≡ bad BadRecord at → n ≡ at + 16
+      clash z = cc
+
+      alike : got d n ≡ got (withOne (roleAt s at) c) (at + 16) → n ≡ at + 16
+      alike z = cc
+
+pub ruleset one-record = (record-cut, record-wrong, record-turn, record-more)
 
 -- ---- checking: the records before at are counted in c
 pub record Checking (limit : ℕ) (s : List ℕ) (c : Counts) (at : ℕ) : Type 0 where
@@ -42,40 +83,31 @@ module _ (limit : ℕ) (s : List ℕ) where
         let e : (length s + 15 - at) / 16 ≡ 0 = omega arith in
         rw e at (h .rest)
 
-    module _ (l : at < length s) where
+    module _ (l : at < length s) (r : Found) (e : saidFound r ≡ recordAt limit c s at (length s)) where
       next : (length s + 15 - at) / 16 ≡ suc ((length s + 15 - (at + 16)) / 16)
       next = omega arith
 
-      step : on (recordAt limit c s at (length s)) (λ d n. recordsAt limit ((length s + 15 - (at + 16)) / 16) d s n (length s)) ≡ schemaAt limit s
+      step : on (saidFound r) (λ d n. recordsAt limit ((length s + 15 - (at + 16)) / 16) d s n (length s)) ≡ schemaAt limit s
       unfolding recordsAt
-      step = ap (λ (k : ℕ). recordsAt limit k c s at (length s)) (sym next) ∙ h .rest
+      step = rw e (ap (λ (k : ℕ). recordsAt limit k c s at (length s)) (sym next) ∙ h .rest)
 
-      refuse : bad BadRecord at ≡ recordAt limit c s at (length s) → saidFound (Bad BadRecord at) ≡ schemaAt limit s
+      pub checking-bad : (f : Fault) (p : ℕ) → r ≡ Bad f p → saidFound (Bad f p) ≡ schemaAt limit s
       unfolding saidFound on
-      refuse e = rw (← e) at step
+      checking-bad f p k = rw k at step
 
-      pub checking-cut : length s - at < 16 → saidFound (Bad BadRecord at) ≡ schemaAt limit s
-      unfolding recordAt
-      checking-cut k = refuse (pick-yes _ _ _ _ (lt-ltb _ _ k) refl)
+      module _ (d : Counts) (n : ℕ) (k : r ≡ Records d n) where
+        place : n ≡ at + 16
+        unfolding saidFound
+        place = record-next limit s c at d n (rw k at e)
 
-      module _ (k : 16 ≤ length s - at) (g : Bool) (e : g ≡ given limit s at) where
-        pub checking-wrong : g ≡ false → saidFound (Bad BadRecord at) ≡ schemaAt limit s
-        unfolding recordAt
-        checking-wrong f = refuse (pick-no _ _ _ _ (le-ltb _ _ k) (pick-no _ _ _ _ (sym e ∙ f) refl))
+        pub checking-less : length s - n < length s - at
+        checking-less = omega (arith, place)
 
-        module _ (f : g ≡ true) (t : Bool) (i : t ≡ inTurn (getD s at 0) c) where
-          pub checking-turn : t ≡ false → saidFound (Bad BadRecord at) ≡ schemaAt limit s
-          unfolding recordAt roleAt
-          checking-turn j = refuse (pick-no _ _ _ _ (le-ltb _ _ k) (pick-yes _ _ _ _ (sym e ∙ f) (pick-no _ _ _ _ (sym i ∙ j) refl)))
+        pub checking-more : Checking limit s d n
+        unfolding saidFound on
+        checking-more = record { rest = rw place (rw (k, place) at step) }
 
-          pub checking-more : (d : Counts) → t ≡ true → d ≡ withOne (getD s at 0) c → Checking limit s d (at + 16)
-          unfolding recordAt roleAt on
-          checking-more d j m =
-              let r : got d (at + 16) ≡ recordAt limit c s at (length s) =
-              pick-no _ _ _ _ (le-ltb _ _ k) (pick-yes _ _ _ _ (sym e ∙ f) (pick-yes _ _ _ _ (sym i ∙ j) (ap (λ (x : Counts). got x (at + 16)) m))) in
-              record { rest = rw (← r) at step }
-
-pub ruleset checking = (checking-empty, checking-none, checking-end, checking-cut, checking-wrong, checking-turn, checking-more)
+pub ruleset checking = (checking-empty, checking-none, checking-end, checking-bad, checking-less, checking-more)
 
 -- ---- two schemas: the first i records are equal
 pub record Alike (s t v u : List ℕ) (n i : ℕ) : Type 0 where

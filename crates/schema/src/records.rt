@@ -1,8 +1,8 @@
 // Whether schema records are ones that Statistics gives.
 ghost use mathlib.Core.Path.{_≡_};
 ghost use Prim.Native.Nat.{_+_, _≤_, _<_};
-ghost use lib.ListN.{length};
-ghost use Rattle.schema.specs.Records.{isLineOf, isNameOf, isKindOf, given, countOf, mostOf, isPassed, isFirst, inTurn, withOne, schemaAt, anywhere, schemaOf, saidFound, saidChecked};
+ghost use lib.ListN.{length, getD};
+ghost use Rattle.schema.specs.Records.{isLineOf, isNameOf, isKindOf, given, countOf, mostOf, isPassed, isFirst, inTurn, withOne, recordAt, schemaAt, anywhere, schemaOf, saidFound, saidChecked};
 use wire::number;
 use wire::refusal::Fault;
 use wire::refusal::Refusal;
@@ -71,8 +71,8 @@ fn is_name_of(limit: u64, role: u8, name: u64, len: u64) -> bool
     len <= limit - name
 }
 
-// Whether Statistics gives the record at at.
-fn is_given(limit: u64, s: &[u8], at: usize) -> bool
+// Whether Statistics gives the record of a static or regular column at at.
+fn is_given_column(limit: u64, s: &[u8], at: usize) -> bool
     requires { ⌜ at + 16 ≤ length (now s) ⌝ }
     ensures { λ r. ⌜ r ≡ given limit (now (s .entry)) at ⌝ }
 {
@@ -84,6 +84,21 @@ fn is_given(limit: u64, s: &[u8], at: usize) -> bool
             return number::big_endian(s, at + 12, 4, 0) == 0;
         }
         return false;
+    }
+    false
+}
+
+// Whether Statistics gives the record of a key or clustering column at at.
+fn is_given_key(limit: u64, s: &[u8], at: usize) -> bool
+    requires { ⌜ (at + 16 ≤ length (now s)) × (getD (now s) at 0 ≤ 1) ⌝ }
+    ensures { λ r. ⌜ r ≡ given limit (now (s .entry)) at ⌝ }
+{
+    if is_kind_of(s[at], s[at + 1], s[at + 2], s[at + 3]) {
+        if number::big_endian(s, at + 4, 4, 0) == 0 {
+            if number::big_endian(s, at + 8, 4, 0) == 0 {
+                return number::big_endian(s, at + 12, 4, 0) == 0;
+            }
+        }
     }
     false
 }
@@ -192,6 +207,43 @@ fn with_one(role: u8, c: Counts) -> Counts
     }
 }
 
+// The record at at, behind those counted in c. The two kinds of roles go apart: each then has few tests.
+fn read_record(limit: u64, s: &[u8], at: usize, c: Counts) -> Found
+    requires { ⌜ at ≤ length (now s) ⌝ }
+    ensures { λ r. ⌜ saidFound r ≡ recordAt limit c (now (s .entry)) at (length (now (s .entry))) ⌝ }
+{
+    if s.len() - at < 16 {
+        return Found::Bad {
+            fault: Fault::BadRecord,
+            place: at,
+        };
+    }
+    let role = s[at];
+    if 1 < role {
+        if is_given_column(limit, s, at) {
+            if in_turn(role, c) {
+                return Found::Records {
+                    counts: with_one(role, c),
+                    next: at + 16,
+                };
+            }
+        }
+    } else {
+        if is_given_key(limit, s, at) {
+            if in_turn(role, c) {
+                return Found::Records {
+                    counts: with_one(role, c),
+                    next: at + 16,
+                };
+            }
+        }
+    }
+    Found::Bad {
+        fault: Fault::BadRecord,
+        place: at,
+    }
+}
+
 // The records of a whole schema.
 fn read_records(limit: u64, s: &[u8]) -> Found
     ensures { λ r. ⌜ saidFound r ≡ schemaAt limit (now (s .entry)) ⌝ }
@@ -210,28 +262,13 @@ fn read_records(limit: u64, s: &[u8]) -> Found
     };
     let mut at: usize = 0;
     while at < s.len() {
-        if s.len() - at < 16 {
-            return Found::Bad {
-                fault: Fault::BadRecord,
-                place: at,
-            };
-        }
-        if is_given(limit, s, at) {
-            let role = s[at];
-            if in_turn(role, c) {
-                c = with_one(role, c);
-                at += 16;
-                continue;
+        match read_record(limit, s, at, c) {
+            Found::Records { counts, next } => {
+                c = counts;
+                at = next;
             }
-            return Found::Bad {
-                fault: Fault::BadRecord,
-                place: at,
-            };
+            Found::Bad { fault, place } => return Found::Bad { fault, place },
         }
-        return Found::Bad {
-            fault: Fault::BadRecord,
-            place: at,
-        };
     }
     Found::Records {
         counts: c,

@@ -1,43 +1,42 @@
--- The code's table is 001's: its rows and names are computed from the lines of the definition, which the check compares with the code's
--- constants; one law gives each row. Assumes nothing.
+-- The code's table is 001's: the ends of its names are computed from the lines of the definition, which the check compares with the
+-- code's constants; what the code says of a line by its number is computed at every number. Assumes nothing.
 use mathlib.Core.Path.{_≡_, refl, sym, ap, subst, _∙_}
-use mathlib.Core.Bool.{Bool, true, false}
+use mathlib.Core.Logic.{inl, inr}
+use mathlib.Core.Bool.{Bool, true, false, not, _||_}
 use mathlib.Core.List.{List, [], _∷_}
 use Prim.Native.Nat.{ℕ, zero, suc, _+_, _-_, _≤_, _<_}
 use native.Mathlib.Nat.{not-suc-le-zero, le-of-suc-le-suc}
 use native.Mathlib.Omega.{arith}
 use borrow.Author.Tests.{ne-eqb, le-leb, eqb-false, leb-true}
-use lib.Dec.{eqb, leb, leb→le}
+use lib.Dec.{T, eqb, leb, leb→le, ltb, ltb→lt}
 use lib.ListN.{length, getD, drop, length-append, drop-of-length-le}
-use lib.Seq.{take-all}
+use mir.Syntax.{w64}
+use mir.Val.{Fits, hasKey}
+use types.Run.{OneOf, hit}
 use Rattle.wire.specs.Choose.{pick}
 use Rattle.wire.specs.Store.{part}
 use Rattle.wire.proofs.Choose.{cases, pick-yes, pick-no, pick-ind}
-use Rattle.wire.proofs.Finite.{below-at}
-use Rattle.typetable.specs.declared.Row.{Row}
+use Rattle.wire.proofs.Finite.{allBelow, below-at}
 use Rattle.typetable.specs.Text.{same}
 use Rattle.typetable.specs.Table.{Line, table, lineIn, nth, lineOf, noLine, isLine}
-use Rattle.typetable.specs.Rows.{names, first, RowOf}
-use Rattle.typetable.proofs.Texts.{same-is}
+use Rattle.typetable.specs.Rows.{names, first}
+use Rattle.typetable.proofs.Texts.{first-passes, then-passes, same-is}
 
-abbrev rowAs : ℕ → Line → Row
-rowAs e l = (e, l .parameters, l .width, l .ordered, l .column)
+-- where the names of lines end, the first of which begins at e
+unfoldable pub endsFrom : ℕ → List Line → List ℕ
+endsFrom e [] = []
+endsFrom e (l ∷ ls) = (e + length (l .name)) ∷ endsFrom (e + length (l .name)) ls
 
--- the rows of lines whose names begin at e
-unfoldable pub rowsFrom : ℕ → List Line → List Row
-rowsFrom e [] = []
-rowsFrom e (l ∷ ls) = rowAs (e + length (l .name)) l ∷ rowsFrom (e + length (l .name)) ls
+unfoldable pub allEnds : List ℕ
+allEnds = 0 ∷ endsFrom 0 table
 
-unfoldable pub rows : List Row
-rows = rowAs 0 noLine ∷ rowsFrom 0 table
-
-row-at : (ls : List Line) (e n : ℕ) (d : Row) → n < length ls → getD (rowsFrom e ls) n d ≡ rowAs (e + length (names (first (suc n) ls))) (nth n ls)
-unfolding rowsFrom names first nth
-row-at [] e n d h = absurd (not-suc-le-zero h)
-row-at (l ∷ ls) e zero d h = ap (λ (k : ℕ). rowAs k l) (rw (length-append (l .name) []) (omega arith))
-row-at (l ∷ ls) e (suc n) d h =
-    row-at ls (e + length (l .name)) n d (le-of-suc-le-suc h)
-    ∙ ap (λ (k : ℕ). rowAs k (nth n ls)) (rw (length-append (l .name) (names (first (suc n) ls))) (omega arith))
+end-at : (ls : List Line) (e n d : ℕ) → n < length ls → getD (endsFrom e ls) n d ≡ e + length (names (first (suc n) ls))
+unfolding endsFrom names first
+end-at [] e n d h = absurd (not-suc-le-zero h)
+end-at (l ∷ ls) e zero d h = rw (length-append (l .name) []) (omega arith)
+end-at (l ∷ ls) e (suc n) d h =
+    end-at ls (e + length (l .name)) n d (le-of-suc-le-suc h)
+    ∙ rw (length-append (l .name) (names (first (suc n) ls))) (omega arith)
 
 nth-none : (ls : List Line) (n : ℕ) → length ls ≤ n → nth n ls ≡ noLine
 unfolding nth
@@ -50,33 +49,60 @@ lines : length table ≡ 34
 unfolding table
 lines = refl
 
-pub row-inside : (l : ℕ) (d : Row) → l ≤ 34 → RowOf l (getD rows l d)
-unfolding rows lineOf names first
-row-inside zero d h = record { end = refl; parameters = refl; width = refl; ordered = refl; column = refl }
-row-inside (suc n) d h =
-    let e = row-at table 0 n d (omega (arith, lines)) in
-    rw e (record { end = omega arith; parameters = refl; width = refl; ordered = refl; column = refl })
+pub end-is : (l d : ℕ) → l ≤ 34 → getD allEnds l d ≡ length (names (first l table))
+unfolding allEnds names first
+end-is zero d h = refl
+end-is (suc n) d h = end-at table 0 n d (omega (arith, lines)) ∙ omega arith
 
-none-at : (l : ℕ) → 34 < l → noLine ≡ lineOf l
+pub ends-fit : (l : ℕ) → l ≤ 34 → Fits w64 (getD allEnds l 0)
+unfolding allEnds endsFrom table
+ends-fit l h = let k : getD allEnds l 0 ≤ 382 = leb→le _ _ (below-at 35 (λ n. leb (getD allEnds n 0) 382) tt l (omega arith)) in omega arith
+
+-- ---- what a line is, by its number
+pub none-at : (l : ℕ) → 34 < l → noLine ≡ lineOf l
 unfolding lineOf
 none-at zero h = absurd (not-suc-le-zero h)
 none-at (suc n) h = sym (nth-none table n (omega (arith, lines)))
 
-all-names : 382 ≡ length (names table)
-unfolding table names
-all-names = refl
+-- of a test f that passes at each of the keys ks
+abbrev pub allOf : (ℕ → Bool) → List ℕ → Bool
+allOf f [] = true
+allOf f (k ∷ ks) = pick (f k) (allOf f ks) false
 
-pub row-outside : (l : ℕ) → 34 < l → RowOf l (382, false, 0, false, false)
-unfolding noLine first
-row-outside l h =
-    let e = none-at l h in
-    record {
-      end = rw (take-all l table (omega (arith, lines))) all-names;
-      parameters = ap (λ (x : Line). x .parameters) e;
-      width = ap (λ (x : Line). x .width) e;
-      ordered = ap (λ (x : Line). x .ordered) e;
-      column = ap (λ (x : Line). x .column) e;
-    }
+pub at-key : (f : ℕ → Bool) (ks : List ℕ) → T (allOf f ks) → (l : ℕ) → OneOf ks l → T (f l)
+at-key f [] t l e = absurd e
+at-key f (k ∷ []) t l e = rw e (first-passes (f k) true t)
+at-key f (k ∷ m ∷ ks) t l (inl e) = rw e (first-passes (f k) (allOf f (m ∷ ks)) t)
+at-key f (k ∷ m ∷ ks) t l (inr e) = at-key f (m ∷ ks) (then-passes (f k) (allOf f (m ∷ ks)) t) l e
+
+-- of a test f that passes from lo up to hi, but at keys: those of arms, the last first
+abbrev pub NoKey : List (List ℕ) → ℕ → Type 0
+NoKey [] l = Unit {0}
+NoKey (ks ∷ arms) l = NoKey arms l × (OneOf ks l → ⊥)
+
+abbrev pub orKey : List (List ℕ) → ℕ → Bool → Bool
+orKey [] l b = b
+orKey (ks ∷ arms) l b = hasKey ks l || orKey arms l b
+
+or-else : (a b : Bool) → T (a || b) → (T a → ⊥) → T b
+or-else true b t n = absurd (n tt)
+or-else false b t n = t
+
+no-key : (arms : List (List ℕ)) (l : ℕ) (b : Bool) → T (orKey arms l b) → NoKey arms l → T b
+no-key [] l b t n = t
+no-key (ks ∷ arms) l b t n = no-key arms l b (or-else (hasKey ks l) (orKey arms l b) t (λ h. n .1 (hit ks l h))) (n .0)
+
+pub between : (f : ℕ → Bool) (lo hi : ℕ) (arms : List (List ℕ)) → T (allBelow hi (λ l. ltb l lo || orKey arms l (f l))) → (l : ℕ) → lo ≤ l → l < hi → NoKey arms l → T (f l)
+between f lo hi arms t l h k n =
+    no-key arms l (f l) (or-else (ltb l lo) _ (below-at hi (λ l. ltb l lo || orKey arms l (f l)) t l k) (λ p. absurd (omega (arith, ltb→lt l lo p, h)))) n
+
+pub it-is : (b : Bool) → T b → true ≡ b
+it-is true t = refl
+it-is false t = absurd t
+
+pub it-is-not : (b : Bool) → T (not b) → false ≡ b
+it-is-not true t = absurd t
+it-is-not false t = refl
 
 -- ---- whether a number is a line's
 pub line-zero : (l : ℕ) → l ≡ 0 → false ≡ isLine l
@@ -126,26 +152,26 @@ last : (n : ℕ) → n < 34 → ends (suc n) ≤ length (names table)
 unfolding ends names table first
 last n h = leb→le _ _ (below-at 34 (λ n. leb (ends (suc n)) (length (names table))) tt n h)
 
--- of the rows before and at a line
-module _ (l : ℕ) (p r : Row) (least : 0 < l) (most : l ≤ 34) (before : RowOf (l - 1) p) (at : RowOf l r) where
+-- of the ends before and at a line
+module _ (l p r : ℕ) (least : 0 < l) (most : l ≤ 34) (before : p ≡ length (names (first (l - 1) table))) (at : r ≡ length (names (first l table))) where
   next : suc (l - 1) ≡ l
   next = omega arith
 
-  pub name-rise : p .0 ≤ r .0
+  pub name-rise : p ≤ r
   unfolding ends
-  name-rise = rw (before .end, at .end) (subst (λ (k : ℕ). ends (l - 1) ≤ ends k) next (rise (l - 1) (omega arith)))
+  name-rise = rw (before, at) (subst (λ (k : ℕ). ends (l - 1) ≤ ends k) next (rise (l - 1) (omega arith)))
 
-  pub name-within : r .0 ≤ length (names table)
+  pub name-within : r ≤ length (names table)
   unfolding ends
-  name-within = rw (at .end) (subst (λ (k : ℕ). ends k ≤ length (names table)) next (last (l - 1) (omega arith)))
+  name-within = rw at (subst (λ (k : ℕ). ends k ≤ length (names table)) next (last (l - 1) (omega arith)))
 
-  name-at : part (names table) (p .0) (r .0 - p .0) ≡ lineOf l .name
+  name-at : part (names table) p (r - p) ≡ lineOf l .name
   unfolding ends name-part
   name-at =
-      rw (before .end, at .end)
+      rw (before, at)
       (subst (λ (k : ℕ). part (names table) (ends (l - 1)) (ends k - ends (l - 1)) ≡ lineOf k .name) next (name-is (l - 1) (omega arith)))
 
-  pub name-same : (b : Bool) (name : List ℕ) → b ≡ same (part (names table) (p .0) (r .0 - p .0)) name → b ≡ same (lineOf l .name) name
+  pub name-same : (b : Bool) (name : List ℕ) → b ≡ same (part (names table) p (r - p)) name → b ≡ same (lineOf l .name) name
   name-same b name e = rw (← name-at) e
 
 -- ---- the loop over the lines: none before line l has the name

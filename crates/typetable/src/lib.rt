@@ -7,7 +7,7 @@ ghost use lib.ListN.{length};
 ghost use Rattle.wire.specs.Store.{part};
 ghost use Rattle.typetable.specs.Text.{same};
 ghost use Rattle.typetable.specs.Table.{table, lineIn, lineOf, isLine};
-ghost use Rattle.typetable.specs.Rows.{RowOf};
+ghost use Rattle.typetable.specs.Rows.{names, first};
 
 // The names of all lines, one after the other.
 const NAMES: [u8; 382] =
@@ -16,56 +16,51 @@ const NAMES: [u8; 382] =
     LexicalUUIDTypeListTypeLongTypeMapTypePartitionerDefinedOrderReversedTypeSetTypeShortTypeSimpleDateType\
     TimestampTypeTimeTypeTimeUUIDTypeTupleTypeUserTypeUTF8TypeUUIDType";
 
-// A line: where its name ends in NAMES; whether it takes parameters; its width, or 255 where that is variable; whether it has an order;
-// whether a static or regular column may have it.
-struct Row(u16, bool, u8, bool, bool);
-
-const ROWS: [Row; 35] = [
-    Row(0, false, 0, false, false), // no line
-    Row(9, false, 255, true, true), // 1 AsciiType
-    Row(20, false, 1, true, true), // 2 BooleanType
-    Row(29, false, 255, true, true), // 3 BytesType
-    Row(37, false, 255, false, true), // 4 ByteType
-    Row(59, true, 255, false, true), // 5 ColumnToCollectionType
-    Row(72, true, 255, false, true), // 6 CompositeType
-    Row(89, false, 255, false, false), // 7 CounterColumnType
-    Row(97, false, 8, false, true), // 8 DateType
-    Row(108, false, 255, false, true), // 9 DecimalType
-    Row(118, false, 8, false, true), // 10 DoubleType
-    Row(130, false, 255, false, true), // 11 DurationType
-    Row(150, true, 255, false, true), // 12 DynamicCompositeType
-    Row(159, false, 255, false, true), // 13 EmptyType
-    Row(168, false, 4, false, true), // 14 FloatType
-    Row(178, true, 255, false, true), // 15 FrozenType
-    Row(193, false, 255, false, true), // 16 InetAddressType
-    Row(202, false, 4, true, true), // 17 Int32Type
-    Row(213, false, 255, false, true), // 18 IntegerType
-    Row(228, false, 16, false, true), // 19 LexicalUUIDType
-    Row(236, true, 255, false, false), // 20 ListType
-    Row(244, false, 8, true, true), // 21 LongType
-    Row(251, true, 255, false, false), // 22 MapType
-    Row(274, true, 255, false, true), // 23 PartitionerDefinedOrder
-    Row(286, true, 255, false, true), // 24 ReversedType
-    Row(293, true, 255, false, false), // 25 SetType
-    Row(302, false, 255, false, true), // 26 ShortType
-    Row(316, false, 255, false, true), // 27 SimpleDateType
-    Row(329, false, 8, true, true), // 28 TimestampType
-    Row(337, false, 255, false, true), // 29 TimeType
-    Row(349, false, 16, false, true), // 30 TimeUUIDType
-    Row(358, true, 255, false, true), // 31 TupleType
-    Row(366, true, 255, false, false), // 32 UserType
-    Row(374, false, 255, true, true), // 33 UTF8Type
-    Row(382, false, 16, false, true), // 34 UUIDType
+// Where the name of each line ends in NAMES, from line 0, which has none.
+const ENDS: [u16; 35] = [
+    0, // no line
+    9, // 1 AsciiType
+    20, // 2 BooleanType
+    29, // 3 BytesType
+    37, // 4 ByteType
+    59, // 5 ColumnToCollectionType
+    72, // 6 CompositeType
+    89, // 7 CounterColumnType
+    97, // 8 DateType
+    108, // 9 DecimalType
+    118, // 10 DoubleType
+    130, // 11 DurationType
+    150, // 12 DynamicCompositeType
+    159, // 13 EmptyType
+    168, // 14 FloatType
+    178, // 15 FrozenType
+    193, // 16 InetAddressType
+    202, // 17 Int32Type
+    213, // 18 IntegerType
+    228, // 19 LexicalUUIDType
+    236, // 20 ListType
+    244, // 21 LongType
+    251, // 22 MapType
+    274, // 23 PartitionerDefinedOrder
+    286, // 24 ReversedType
+    293, // 25 SetType
+    302, // 26 ShortType
+    316, // 27 SimpleDateType
+    329, // 28 TimestampType
+    337, // 29 TimeType
+    349, // 30 TimeUUIDType
+    358, // 31 TupleType
+    366, // 32 UserType
+    374, // 33 UTF8Type
+    382, // 34 UUIDType
 ];
 
-// The line of a number, or no line.
-fn row_of(line: u8) -> Row
-    ensures { λ r. ⌜ RowOf line r ⌝ }
+// Where the name of a line ends in NAMES.
+fn end_of(line: u8) -> usize
+    requires { ⌜ line ≤ 34 ⌝ }
+    ensures { λ r. ⌜ r ≡ length (names (first line table)) ⌝ }
 {
-    if 34 < line {
-        return Row(382, false, 0, false, false);
-    }
-    ROWS[line as usize]
+    ENDS[line as usize] as usize
 }
 
 // Whether the table has that line.
@@ -82,28 +77,58 @@ pub fn is_line(line: u8) -> bool
 pub fn takes_parameters(line: u8) -> bool
     ensures { λ r. ⌜ r ≡ lineOf line .parameters ⌝ }
 {
-    row_of(line).1
+    if 34 < line {
+        return false;
+    }
+    match line {
+        // ColumnToCollection, Composite, DynamicComposite, Frozen, List, Map, PartitionerDefinedOrder, Reversed, Set, Tuple, User
+        5 | 6 | 12 | 15 | 20 | 22 | 23 | 24 | 25 | 31 | 32 => true,
+        _ => false,
+    }
 }
 
 // The width of a line's values, or 255 where it is variable.
 pub fn width(line: u8) -> u8
     ensures { λ r. ⌜ r ≡ lineOf line .width ⌝ }
 {
-    row_of(line).2
+    if 34 < line {
+        return 0;
+    }
+    match line {
+        0 => 0, // no line
+        2 => 1, // Boolean
+        14 | 17 => 4, // Float, Int32
+        8 | 10 | 21 | 28 => 8, // Date, Double, Long, Timestamp
+        19 | 30 | 34 => 16, // LexicalUUID, TimeUUID, UUID
+        _ => 255,
+    }
 }
 
 // Whether a line's values have an order.
 pub fn is_ordered(line: u8) -> bool
     ensures { λ r. ⌜ r ≡ lineOf line .ordered ⌝ }
 {
-    row_of(line).3
+    if 34 < line {
+        return false;
+    }
+    match line {
+        1 | 2 | 3 | 17 | 21 | 28 | 33 => true, // Ascii, Boolean, Bytes, Int32, Long, Timestamp, UTF8
+        _ => false,
+    }
 }
 
 // Whether a static or regular column may have a line's type.
 pub fn is_of_columns(line: u8) -> bool
     ensures { λ r. ⌜ r ≡ lineOf line .column ⌝ }
 {
-    row_of(line).4
+    if 34 < line {
+        return false;
+    }
+    match line {
+        0 => false, // no line
+        7 | 20 | 22 | 25 | 32 => false, // CounterColumn, List, Map, Set, User
+        _ => true,
+    }
 }
 
 // Whether a part of a is b.
@@ -119,8 +144,8 @@ fn has_name(line: u8, name: &[u8]) -> bool
     requires { ⌜ (0 < line) × (line ≤ 34) ⌝ }
     ensures { λ r. ⌜ r ≡ same (lineOf line .name) (now (name .entry)) ⌝ }
 {
-    let from = row_of(line - 1).0 as usize;
-    let to = row_of(line).0 as usize;
+    let from = end_of(line - 1);
+    let to = end_of(line);
     has_part(&NAMES, from, to, name)
 }
 

@@ -5,20 +5,14 @@ use borrow.Author.Needs.{needs}
 use Rattle.typetable.proofs.has_name.Statement.{statement}
 use Rattle.typetable.proofs.has_name.Tie as tie
 
-sub-row-of : tie.Need-sub-row-of
-sub-row-of c = search needs
+sub-end-of : tie.Need-sub-end-of
+sub-end-of c = search needs
 
-row-of-requires : tie.Need-row-of-requires
-row-of-requires c κs = search needs
+end-of-requires : tie.Need-end-of-requires
+end-of-requires c κs = search needs
 
-cast-from : tie.Need-cast-from
-cast-from c = search needs
-
-row-of-requires-2 : tie.Need-row-of-requires-2
-row-of-requires-2 c κs = search needs
-
-cast-to : tie.Need-cast-to
-cast-to c = search needs
+end-of-requires-2 : tie.Need-end-of-requires-2
+end-of-requires-2 c κs = search needs
 
 slice-aggregate-has-part : tie.Need-slice-aggregate-has-part
 slice-aggregate-has-part c = search needs
@@ -35,11 +29,9 @@ pub has-name-spec : {M : Type 1} → statement M
 has-name-spec =
     tie.close
     (tie.spec
-    sub-row-of
-    row-of-requires
-    cast-from
-    row-of-requires-2
-    cast-to
+    sub-end-of
+    end-of-requires
+    end-of-requires-2
     slice-aggregate-has-part
     has-part-requires
     returns)

@@ -1,0 +1,1 @@
+// What is signed for, as theorems over the public definitions: laws alone, no function.
