@@ -2,7 +2,7 @@
 ghost use Prim.Native.Nat.{_≤_};
 ghost use lib.ListN.{length};
 ghost use Rattle.walk.specs.Tables.{Table};
-ghost use Rattle.pages.specs.Pages.{pageIn, pageAt, Fills};
+ghost use Rattle.pages.specs.Pages.{pageIn, pageAt, lenOf, Fills};
 use lines::line;
 use lines::refusals;
 use schema::records::Checked;
@@ -24,6 +24,7 @@ pub enum Filled {
 fn fill(c: &[u8], k: Counts, b: Bases, s: &[u8], first: Cursor, d: &mut [u8]) -> Filled
     requires { ⌜ Table (length (now c)) k × (4032 ≤ length (now d)) ⌝ }
     ensures { λ r. ⌜ Fills (pageIn 16 (now (c .entry)) k b (now (s .entry)) first) (now (d .entry)) (now (d .exit)) r ⌝ }
+    ensures { λ r. ⌜ lenOf r ≤ 4032 ⌝ }
 {
     let mut x = first;
     let mut at: usize = 0;
@@ -55,6 +56,7 @@ pub fn fill_page(
     page: &mut [u8; 4096],
 ) -> Filled
     ensures { λ r. ⌜ Fills (pageAt (now (schema .entry)) bases (now («data» .entry)) cursor) (now (page .entry)) (now (page .exit)) r ⌝ }
+    ensures { λ r. ⌜ lenOf r ≤ 4032 ⌝ }
 {
     match tables::check(schema, bases, data, 0) {
         Checked::Counted(counts) => fill(schema, counts, bases, data, cursor, page),
