@@ -48,13 +48,15 @@ fn fill(c: &[u8], k: Counts, b: Bases, s: &[u8], first: Cursor, d: &mut [u8]) ->
 }
 
 // Fills a page with the next lines of the walk from the cursor on: up to 16 records' lines, and a refusal's line where the walk ends so.
+// Internal: for the listing program, whose page has room for them.
 pub fn fill_page(
     schema: &[u8],
     bases: Bases,
     data: &[u8],
     cursor: Cursor,
-    page: &mut [u8; 4096],
+    page: &mut [u8],
 ) -> Filled
+    requires { ⌜ 4032 ≤ length (now page) ⌝ }
     ensures { λ r. ⌜ Fills (pageAt (now (schema .entry)) bases (now («data» .entry)) cursor) (now (page .entry)) (now (page .exit)) r ⌝ }
     ensures { λ r. ⌜ lenOf r ≤ 4032 ⌝ }
 {
