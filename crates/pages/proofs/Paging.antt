@@ -110,6 +110,14 @@ module _ (p : Page) (c : List ℕ) (k : Counts) (b : Bases) (s d₀ d : List ℕ
         let z : n ≡ length (h .written ++ refusalLine (q .fault) (q .slice) (q .place)) = omega (arith, w .next, h .place) ∙ sym (length-append (h .written) (refusalLine (q .fault) (q .slice) (q .place))) in
         record { answer = rw (g, z) refl; buffer = rw g (then (refusalLine (q .fault) (q .slice) (q .place)) d′ n w m j) }
 
+-- ---- no page is longer than 16 lines
+module _ (p : Page) (c : List ℕ) (k : Counts) (b : Bases) (s d₀ d : List ℕ) (at i : ℕ) (x : Cursor) (h : Paging p c k b s d₀ d at i x) where
+  pub paging-most : at ≤ 4032
+  paging-most = omega (arith, h .lines, h .most)
+
+  pub paging-last : (n : ℕ) → i < 16 → n ≤ at + 252 → n ≤ 4032
+  paging-last n j m = omega (arith, h .lines)
+
 -- ---- a page of a table that is checked first
 module _ (c : List ℕ) (b : Bases) (s : List ℕ) (x : Cursor) (q : Checked) (e : saidChecked q ≡ tableAt c b s 0) (d d′ : List ℕ) where
   pub page-counted : (k : Counts) (r : Filled) → q ≡ Counted k → Fills (pageIn 16 c k b s x) d d′ r → Fills (pageAt c b s x) d d′ r
@@ -122,4 +130,4 @@ module _ (c : List ℕ) (b : Bases) (s : List ℕ) (x : Cursor) (q : Checked) (e
       let m : n ≡ length (refusalLine (y .fault) (y .slice) (y .place)) = omega (arith, h .next) in
       rw (← e, f) (record { answer = ap Last m; buffer = h .stores })
 
-pub ruleset paging = (paging-none, paging-room, paging-end, paging-more, paging-done, paging-refused)
+pub ruleset paging = (paging-none, paging-room, paging-end, paging-more, paging-done, paging-refused, paging-most, paging-last)

@@ -54,6 +54,11 @@ unfoldable pub answerOf : Page → Filled
 answerOf (more w y) = More (length w) y
 answerOf (last w) = Last (length w)
 
+-- how many bytes an answer says
+abbrev pub lenOf : Filled → ℕ
+lenOf (More n y) = n
+lenOf (Last n) = n
+
 -- the page p is stored at the start of d, which becomes d′, and r is the answer
 pub record Fills (p : Page) (d d′ : List ℕ) (r : Filled) : Type 0 where
   pub answer : r ≡ answerOf p

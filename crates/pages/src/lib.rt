@@ -2,7 +2,7 @@
 ghost use Prim.Native.Nat.{_≤_};
 ghost use lib.ListN.{length};
 ghost use Rattle.walk.specs.Tables.{Table};
-ghost use Rattle.pages.specs.Pages.{pageIn, pageAt, Fills};
+ghost use Rattle.pages.specs.Pages.{pageIn, pageAt, lenOf, Fills};
 use lines::line;
 use lines::refusals;
 use schema::records::Checked;
@@ -24,6 +24,7 @@ pub enum Filled {
 fn fill(c: &[u8], k: Counts, b: Bases, s: &[u8], first: Cursor, d: &mut [u8]) -> Filled
     requires { ⌜ Table (length (now c)) k × (4032 ≤ length (now d)) ⌝ }
     ensures { λ r. ⌜ Fills (pageIn 16 (now (c .entry)) k b (now (s .entry)) first) (now (d .entry)) (now (d .exit)) r ⌝ }
+    ensures { λ r. ⌜ lenOf r ≤ 4032 ⌝ }
 {
     let mut x = first;
     let mut at: usize = 0;
@@ -47,14 +48,17 @@ fn fill(c: &[u8], k: Counts, b: Bases, s: &[u8], first: Cursor, d: &mut [u8]) ->
 }
 
 // Fills a page with the next lines of the walk from the cursor on: up to 16 records' lines, and a refusal's line where the walk ends so.
+// Internal: for the listing program, whose page has room for them.
 pub fn fill_page(
     schema: &[u8],
     bases: Bases,
     data: &[u8],
     cursor: Cursor,
-    page: &mut [u8; 4096],
+    page: &mut [u8],
 ) -> Filled
+    requires { ⌜ 4032 ≤ length (now page) ⌝ }
     ensures { λ r. ⌜ Fills (pageAt (now (schema .entry)) bases (now («data» .entry)) cursor) (now (page .entry)) (now (page .exit)) r ⌝ }
+    ensures { λ r. ⌜ lenOf r ≤ 4032 ⌝ }
 {
     match tables::check(schema, bases, data, 0) {
         Checked::Counted(counts) => fill(schema, counts, bases, data, cursor, page),

@@ -20,8 +20,14 @@ enum-known-refusal c = search needs
 put-refusal-requires : tie.Need-put-refusal-requires
 put-refusal-requires c κs = search needs
 
+same-length : tie.Need-same-length
+same-length c = search needs
+
 returns : tie.Need-returns
 returns c = search (page-counted, page-unchecked, tables, puts-same, needs)
+
+same-length-2 : tie.Need-same-length-2
+same-length-2 c = search needs
 
 returns-2 : tie.Need-returns-2
 returns-2 c = search (page-counted, page-unchecked, tables, puts-same, needs)
@@ -35,5 +41,7 @@ fill-page-spec =
     fill-requires
     enum-known-refusal
     put-refusal-requires
+    same-length
     returns
+    same-length-2
     returns-2)

@@ -1,0 +1,4 @@
+pub mod Paths
+pub mod Tables
+pub mod Begins
+pub mod Printed

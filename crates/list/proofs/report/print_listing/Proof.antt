@@ -1,0 +1,16 @@
+use Rattle.list.proofs.Paths.{first-bytes}
+use borrow.Author.Needs.{needs}
+use Rattle.list.proofs.report.print_listing.Statement.{statement}
+use Rattle.list.proofs.report.print_listing.Tie as tie
+
+slice-aggregate-print-lines : tie.Need-slice-aggregate-print-lines
+slice-aggregate-print-lines c = search (first-bytes, needs)
+
+print-lines-requires : tie.Need-print-lines-requires
+print-lines-requires c κs = search needs
+
+returns : tie.Need-returns
+returns c = search needs
+
+pub print-listing-spec : {M : Type 1} → statement M
+print-listing-spec = tie.close (tie.spec slice-aggregate-print-lines print-lines-requires returns)
