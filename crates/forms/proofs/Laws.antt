@@ -2,20 +2,31 @@
 -- is of what is shown alone, so that writing again gives the same bytes. Assumes nothing.
 use mathlib.Core.Path.{_≡_, refl, sym, ap, _∙_, subst}
 use mathlib.Core.List.{List, []}
-use Prim.Native.Nat.{ℕ, _+_, _^_, _≤_, _<_}
+use Prim.Native.Nat.{ℕ, _+_, _*_, _^_, _≤_, _<_}
 use native.Mathlib.Omega.{arith}
 use lib.ListN.{length, getD}
-use Rattle.wire.specs.Choose.{pick}
 use Rattle.wire.specs.Got.{Got, got}
 use Rattle.wire.specs.declared.times.Bases.{Bases}
 use Rattle.wire.proofs.RoundTrip.{Reads}
 use Rattle.wire.proofs.Stands.{Stands}
-use Rattle.contents.specs.Contents.{Widths, Contents, contentsAt}
+use Rattle.schema.specs.declared.records.Counts.{Counts}
+use Rattle.walk.specs.Tables.{Table}
+use Rattle.contents.specs.Contents.{Widths, widthsOf, Contents, contentsAt}
+use Rattle.contents.proofs.Values.{widths-length}
 use Rattle.forms.specs.Views.{PartitionView, showContents}
 use Rattle.forms.specs.Whole.{formOf, contentsBytes}
 use Rattle.forms.specs.Fits.{Bounded, AllFit}
 use Rattle.forms.proofs.Whole.{all-back}
 use Rattle.forms.proofs.Fits.{contents-fit}
+
+-- the columns of a schema that is not refused
+pub table-bounded : (c : List ℕ) (k : Counts) → Table (length c) k → Bounded (widthsOf c k)
+unfolding widthsOf
+table-bounded c k h = record {
+  clustering = omega (arith, widths-length c 16 (k .clustering), h .clustering);
+  statics = omega (arith, widths-length c (16 + 16 * k .clustering) (k .statics), h .statics);
+  regulars = omega (arith, widths-length c (16 + 16 * (k .clustering + k .statics)) (k .regulars), h .regulars);
+}
 
 -- a slice stands in itself
 itself : (s : List ℕ) → Stands s (length s) 0 (length s) s
