@@ -44,7 +44,8 @@ use Rattle.contents.specs.Contents.{widthsOf, cellsAt, bodyCellsAt, rowEntryAt,
 use Rattle.listing.specs.Lists.{listAt}
 use Rattle.lines.specs.Numbers.{digits, decimal, signed}
 use Rattle.lines.specs.Lines.{spaced, ended, lineOf, linesOf, refusalLine}
-use Rattle.demands.specs.OneFile.{itemsOf, shownAs, printed, statistics, «data», line}
+use Rattle.lines.specs.Reports.{statisticsAt, listedAt, textOf, reportOf}
+use Rattle.demands.specs.OneFile.{statistics, «data», line}
 
 -- "127 is 7F; 128 is 80 80; ..": the shortest form of x is bs, and bs is read as x
 abbrev Spells : ℕ → List ℕ → Type 0
@@ -59,32 +60,32 @@ schema = 0 ∷ 33 ∷ 0 ∷ 255 ∷ 0 ∷ 0 ∷ 0 ∷ 0 ∷ 0 ∷ 0 ∷ 0 ∷ 0 
     ∷ 1 ∷ 17 ∷ 0 ∷ 4 ∷ 0 ∷ 0 ∷ 0 ∷ 0 ∷ 0 ∷ 0 ∷ 0 ∷ 0 ∷ 0 ∷ 0 ∷ 0 ∷ 0
     ∷ 3 ∷ 17 ∷ 0 ∷ 4 ∷ 0 ∷ 0 ∷ 0 ∷ 99 ∷ 0 ∷ 0 ∷ 0 ∷ 1 ∷ 0 ∷ 0 ∷ 0 ∷ 0 ∷ []
 
-statistics-gives : (s : List ℕ) → itemsOf (fileAt statistics) s ≡ listAt schema bases s 0
-unfolding Ieee.nanBits Ieee.ofBits Ieee.le fileAt entryContentsAt entryCountAt pairsAt entryTypeAt offsetAt offsetOf withEntry used present nearer endOf statisticsEntriesAt forwardAt backwardAt entry0At entry3At validationAt chanceAt chanceOf statisticsHeaderAt groupsAt groupAt columnsAt columnAt typedAt namedAt nameAt isNamed countAt mostOf basesAt timestampAt localAt localOf ttlAt biased typeAt stringAt typeOf held stringWith lineWith plain behind typed tail opened inside parametersCounted named upTo past ofParameters ofName alphanumeric blank table lineIn nth typeLine same among varintAt leading low bigEndian fixedAt bytesOf part shown on pick bind recordsOf recordOf headOf placeOf tailOf itemsOf
+statistics-gives : (s : List ℕ) → listedAt statistics s ≡ listAt schema bases s 0
+unfolding Ieee.nanBits Ieee.ofBits Ieee.le fileAt entryContentsAt entryCountAt pairsAt entryTypeAt offsetAt offsetOf withEntry used present nearer endOf statisticsEntriesAt forwardAt backwardAt entry0At entry3At validationAt chanceAt chanceOf statisticsHeaderAt groupsAt groupAt columnsAt columnAt typedAt namedAt nameAt isNamed countAt mostOf basesAt timestampAt localAt localOf ttlAt biased typeAt stringAt typeOf held stringWith lineWith plain behind typed tail opened inside parametersCounted named upTo past ofParameters ofName alphanumeric blank table lineIn nth typeLine same among varintAt leading low bigEndian fixedAt bytesOf part shown on pick bind recordsOf recordOf headOf placeOf tailOf listedAt statisticsAt within after
 statistics-gives s = refl
 
 -- what is printed of the Data s is this text
 abbrev Prints : List ℕ → List ℕ → Type 0
-Prints s w = printed statistics s ≡ w
+Prints s w = reportOf statistics s ≡ w
 
-prints : (s w : List ℕ) → shownAs (listAt schema bases s 0) ≡ w → Prints s w
-unfolding printed
-prints s w e = ap shownAs (statistics-gives s) ∙ e
+prints : (s w : List ℕ) → textOf (listAt schema bases s 0) ≡ w → Prints s w
+unfolding reportOf
+prints s w e = ap textOf (statistics-gives s) ∙ e
 
-five-lines : shownAs (listAt schema bases («data» 7 (1 ∷ [])) 0)
+five-lines : textOf (listAt schema bases («data» 7 (1 ∷ [])) 0)
     ≡ line (text "1 0 0 0 0 0 0 0 0 0 2 1")
     ++ line (text "3 1 0 0 1442880000000005 0 0 0 0 0 15 14")
     ++ line (text "5 0 0 0 0 0 0 0 0 0 17 4")
     ++ line (text "6 1 0 0 1442880000000005 0 0 0 0 0 25 4")
     ++ line (text "7 0 0 0 0 0 0 0 0 0 29 1")
-unfolding shownAs listAt tableAt badBases after schemaOf schemaAt recordsAt recordAt given isKindOf isNameOf isLineOf isLine roleAt lineAt markAt widthAt recordNameAt nameLenAt zerosAt inTurn isFirst isPassed countOf mostOf withOne within table nth typeLine pick bind varintAt bigEndian fixedAt leading low on byteAt inAt deletionAt variableAt valueAt badFlags flagsAt lastAt expiringAt contentAt timedAt cellAt badHeader headerAt clusteringAt valuesAt skipped prefixAt widthsAt sizesAt badRowFlags rowFlagsAt mayStand extendedOf extendedAt expiryAt livenessAt rowDeletionAt columns presentAt rowContentAt bodyAt restAt rowAt keyOf biased deletedBy deletedAt partitionAt markOf timeOf partitionFlags cellFlags partitionItem rowItem valueItem cellItem endItem widthsOf cellsAt bodyCellsAt rowEntryAt entryAt closedAt entriesIn entriesAt wholeAt partitionsIn contentsAt listing contentsOf digits decimal signed spaced ended lineOf linesOf refusalLine
+unfolding textOf listAt tableAt badBases after schemaOf schemaAt recordsAt recordAt given isKindOf isNameOf isLineOf isLine roleAt lineAt markAt widthAt recordNameAt nameLenAt zerosAt inTurn isFirst isPassed countOf mostOf withOne within table nth typeLine pick bind varintAt bigEndian fixedAt leading low on byteAt inAt deletionAt variableAt valueAt badFlags flagsAt lastAt expiringAt contentAt timedAt cellAt badHeader headerAt clusteringAt valuesAt skipped prefixAt widthsAt sizesAt badRowFlags rowFlagsAt mayStand extendedOf extendedAt expiryAt livenessAt rowDeletionAt columns presentAt rowContentAt bodyAt restAt rowAt keyOf biased deletedBy deletedAt partitionAt markOf timeOf partitionFlags cellFlags partitionItem rowItem valueItem cellItem endItem widthsOf cellsAt bodyCellsAt rowEntryAt entryAt closedAt entriesIn entriesAt wholeAt partitionsIn contentsAt listing contentsOf digits decimal signed spaced ended lineOf linesOf refusalLine
 five-lines = refl
 
-damaged : (shownAs (listAt schema bases («data» 8 (1 ∷ [])) 0) ≡ line (text "refused 3 data 29"))
-    × (shownAs (listAt schema bases («data» 6 (1 ∷ [])) 0) ≡ line (text "refused 2 data 25"))
-    × (shownAs (listAt schema bases («data» 7 []) 0) ≡ line (text "refused 2 data 29"))
-    × (shownAs (listAt schema bases [] 0) ≡ [])
-unfolding shownAs listAt tableAt badBases after schemaOf schemaAt recordsAt recordAt given isKindOf isNameOf isLineOf isLine roleAt lineAt markAt widthAt recordNameAt nameLenAt zerosAt inTurn isFirst isPassed countOf mostOf withOne within table nth typeLine pick bind varintAt bigEndian fixedAt leading low on byteAt inAt deletionAt variableAt valueAt badFlags flagsAt lastAt expiringAt contentAt timedAt cellAt badHeader headerAt clusteringAt valuesAt skipped prefixAt widthsAt sizesAt badRowFlags rowFlagsAt mayStand extendedOf extendedAt expiryAt livenessAt rowDeletionAt columns presentAt rowContentAt bodyAt restAt rowAt keyOf biased deletedBy deletedAt partitionAt markOf timeOf partitionFlags cellFlags partitionItem rowItem valueItem cellItem endItem widthsOf cellsAt bodyCellsAt rowEntryAt entryAt closedAt entriesIn entriesAt wholeAt partitionsIn contentsAt listing contentsOf digits decimal signed spaced ended lineOf linesOf refusalLine
+damaged : (textOf (listAt schema bases («data» 8 (1 ∷ [])) 0) ≡ line (text "refused 3 data 29"))
+    × (textOf (listAt schema bases («data» 6 (1 ∷ [])) 0) ≡ line (text "refused 2 data 25"))
+    × (textOf (listAt schema bases («data» 7 []) 0) ≡ line (text "refused 2 data 29"))
+    × (textOf (listAt schema bases [] 0) ≡ [])
+unfolding textOf listAt tableAt badBases after schemaOf schemaAt recordsAt recordAt given isKindOf isNameOf isLineOf isLine roleAt lineAt markAt widthAt recordNameAt nameLenAt zerosAt inTurn isFirst isPassed countOf mostOf withOne within table nth typeLine pick bind varintAt bigEndian fixedAt leading low on byteAt inAt deletionAt variableAt valueAt badFlags flagsAt lastAt expiringAt contentAt timedAt cellAt badHeader headerAt clusteringAt valuesAt skipped prefixAt widthsAt sizesAt badRowFlags rowFlagsAt mayStand extendedOf extendedAt expiryAt livenessAt rowDeletionAt columns presentAt rowContentAt bodyAt restAt rowAt keyOf biased deletedBy deletedAt partitionAt markOf timeOf partitionFlags cellFlags partitionItem rowItem valueItem cellItem endItem widthsOf cellsAt bodyCellsAt rowEntryAt entryAt closedAt entriesIn entriesAt wholeAt partitionsIn contentsAt listing contentsOf digits decimal signed spaced ended lineOf linesOf refusalLine
 damaged = (refl, refl, refl, refl)
 
 varints : Spells 127 (0x7F ∷ [])

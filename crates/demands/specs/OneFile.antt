@@ -1,32 +1,8 @@
--- Document 01's "One file, whole", and what the listing program prints of a table's two files. Assumes nothing.
+-- Document 01's "One file, whole": the bytes of its two files. Assumes nothing.
 use Prim.Native.Nat.{ℕ}
 use mathlib.Core.List.{List, [], _∷_, _++_}
-use lib.ListN.{length}
-use Rattle.wire.specs.Got.{Got, got, bad}
-use Rattle.wire.specs.Refusals.{Outcome, taken, refused}
-use Rattle.wire.specs.declared.refusal.Slice.the-variants.{Statistics}
 use Rattle.typetable.specs.Text.{text}
-use Rattle.statistics.specs.Header.{recordsOf}
-use Rattle.statistics.specs.Statistics.{File, fileAt}
-use Rattle.walk.specs.declared.items.Item.{Item}
-use Rattle.listing.specs.Lists.{listAt}
-use Rattle.lines.specs.Lines.{linesOf, refusalLine}
 
--- ---- what is printed
--- the items of a table: Statistics gives schema and bases, under which Data is listed
-unfoldable pub itemsOf : Got File → List ℕ → Outcome (List Item)
-itemsOf (got x n) s = listAt (recordsOf (x .header .columns)) (x .header .bases) s 0
-itemsOf (bad f p) s = refused f Statistics p
-
--- a line for each record, or the refusal's one line
-unfoldable pub shownAs : Outcome (List Item) → List ℕ
-shownAs (taken l) = linesOf l
-shownAs (refused f z p) = refusalLine f z p
-
-unfoldable pub printed : List ℕ → List ℕ → List ℕ
-printed t s = shownAs (itemsOf (fileAt t) s)
-
--- ---- the file
 -- "Murmur3Partitioner's full name, chance 0.01, three zero varints, key UTF8Type, clustering Int32Type, no static, regular `v` Int32Type"
 abbrev pub statistics : List ℕ
 statistics = 0 ∷ 0 ∷ 0 ∷ 2 ∷ 0 ∷ 0 ∷ 0 ∷ 0 ∷ 0 ∷ 0 ∷ 0 ∷ 20 ∷ 0 ∷ 0 ∷ 0 ∷ 3 ∷ 0 ∷ 0 ∷ 0 ∷ 73

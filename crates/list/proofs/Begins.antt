@@ -22,7 +22,8 @@ use Rattle.walk.specs.declared.items.Item.{Item}
 use Rattle.listing.specs.Lists.{listAt, counted, saidListed}
 use Rattle.listing.specs.declared.lists.Listed.{Listed}
 use Rattle.listing.specs.declared.lists.Listed.the-variants.{Records, Refused as listed-refused}
-use Rattle.list.specs.Reports.{Known, statisticsAt, countedAt, begunAt, begunOf, Fit}
+use Rattle.list.specs.Reports.{Known, countedAt, begunAt, begunOf, Fit}
+use Rattle.lines.specs.Reports.{statisticsAt}
 use Rattle.list.specs.declared.report.Begun.{Begun}
 use Rattle.list.specs.declared.report.Begun.the-variants.{Listing, Refused}
 use Rattle.list.proofs.Tables.{Whole, read-whole, read-refused}

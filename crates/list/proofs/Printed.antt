@@ -11,18 +11,22 @@ use Rattle.wire.specs.declared.refusal.Slice.{Slice}
 use Rattle.wire.specs.declared.times.Bases.{Bases}
 use Rattle.schema.specs.declared.records.Counts.{Counts}
 use Rattle.walk.specs.Tables.{tableAt, after}
-use Rattle.walk.specs.Walks.{start, remaining, walkFrom}
+use Rattle.walk.specs.Walks.{start, remaining}
+use Rattle.walk.proofs.Schemas.{table-taken}
+use Rattle.contents.specs.Contents.{contentsOf}
+use Rattle.contents.proofs.Lists.{walk-lists}
 use Rattle.walk.specs.declared.items.Item.{Item}
 use Rattle.walk.specs.declared.cursors.Cursor.{Cursor}
 use Rattle.listing.specs.Lists.{listAt}
 use Rattle.lines.specs.Lines.{linesOf, refusalLine}
+use Rattle.lines.specs.Reports.{statisticsAt, listedAt, textOf, reportOf}
 use Rattle.pages.specs.Pages.{Page, more, last, pageAt, answerOf, lenOf, Fills, printed}
 use Rattle.pages.specs.declared.Filled.{Filled}
 use Rattle.pages.specs.declared.Filled.the-variants.{More, Last}
 use Rattle.pages.proofs.Text.{pages-print, page-moves}
 use Rattle.statistics.specs.Statistics.{File}
 use Rattle.statistics.specs.Header.{recordsOf}
-use Rattle.list.specs.Reports.{Known, statisticsAt, listedAt, textOf, reportOf, countedAt, begunAt}
+use Rattle.list.specs.Reports.{Known, countedAt, begunAt}
 
 no : {C : Type 0} {n m : ℕ} {y : Cursor} → More n y ≡ Last m → C
 no e = let z : _≡_ {A = ℕ} 0 1 = cc in absurd (omega arith)
@@ -59,8 +63,8 @@ pages-list : (c : List ℕ) (b : Bases) (s : List ℕ) (l : List Item) → listA
 unfolding listAt pagesOf after
 pages-list c b s l e = go (tableAt c b s 0) refl e
   where
-    go : (a : Outcome Counts) → tableAt c b s 0 ≡ a → after a (λ k. walkFrom c k b s start) ≡ taken l → printed (suc (remaining (length s) start)) c b s start ≡ linesOf l
-    go (taken k) f g = pages-print (suc (remaining (length s) start)) c k b s start l f g (omega arith)
+    go : (a : Outcome Counts) → tableAt c b s 0 ≡ a → after a (λ k. contentsOf c k b s) ≡ taken l → printed (suc (remaining (length s) start)) c b s start ≡ linesOf l
+    go (taken k) f g = pages-print (suc (remaining (length s) start)) c k b s start l f (walk-lists c k b s (table-taken c b s 0 k f) ∙ g) (omega arith)
     go (refused y z p) f g = let q : _≡_ {A = ℕ} 0 1 = cc in absurd (omega arith)
 
 known-same : (k m : Known) → _≡_ {A = Outcome Known} (taken k) (taken m) → k ≡ m

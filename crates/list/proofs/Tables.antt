@@ -29,7 +29,7 @@ use Rattle.schema.specs.Records.{mostOf}
 use Rattle.statistics.specs.declared.Answer.{Answer}
 use Rattle.statistics.specs.declared.Answer.the-variants.{Read, Refused}
 use Rattle.statistics.proofs.Records.{length-records}
-use Rattle.list.specs.Reports.{statisticsAt}
+use Rattle.lines.specs.Reports.{statisticsAt}
 
 -- ---- there are as many columns as the header counts
 any : {A : Type 0} (x : Got A) → Gives x (λ a n. Unit)
