@@ -5,3 +5,4 @@ pub mod Rows
 pub mod Markers
 pub mod Partitions
 pub mod Whole
+pub mod Fits
