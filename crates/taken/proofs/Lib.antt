@@ -1,1 +1,3 @@
+pub mod Goods
+pub mod Fitting
 pub mod Vectors
