@@ -1,3 +1,9 @@
 pub mod Fields
 pub mod Cells
+pub mod Clusterings
+pub mod Rows
+pub mod RowEntries
+pub mod Markers
+pub mod Partitions
+pub mod Whole
 pub mod Vectors
