@@ -1,3 +1,5 @@
 pub mod Goods
 pub mod Fitting
+pub mod Spelled
+pub mod Sound
 pub mod Vectors
