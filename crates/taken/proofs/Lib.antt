@@ -2,4 +2,5 @@ pub mod Goods
 pub mod Fitting
 pub mod Spelled
 pub mod Sound
+pub mod Heads
 pub mod Vectors

@@ -69,13 +69,13 @@ unused i u =
 
 -- ---- places
 module _ (d : List ℕ) (short : length d < 2 ^ 64) where
-  place-good : (i : Item) → 1 ≤ i .length → i .offset + i .length ≤ length d → badPlace d i ≡ false
+  pub place-good : (i : Item) → 1 ≤ i .length → i .offset + i .length ≤ length d → badPlace d i ≡ false
   unfolding badPlace
   place-good i l h =
       not-either _ _ (ne-eqb (i .length) 0 (λ e. omega arith))
       (not-either _ _ (le-ltb (length d) (i .offset) (omega arith)) (le-ltb (length d - i .offset) (i .length) (omega arith)))
 
-  nowhere-good : (i : Item) → i .offset ≡ 0 → i .length ≡ 0 → badNowhere i ≡ false
+  pub nowhere-good : (i : Item) → i .offset ≡ 0 → i .length ≡ 0 → badNowhere i ≡ false
   unfolding badNowhere
   nowhere-good i e f = not-either _ _ (like-is _ _ e) (like-is _ _ f)
 
