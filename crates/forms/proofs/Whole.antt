@@ -30,6 +30,12 @@ use Rattle.forms.proofs.Markers.{marker-entry-back}
 use Rattle.forms.proofs.Partitions.{partition-back}
 
 -- ---- entries
+-- what is open behind an entry shows
+pub open-shown : (s : List ℕ) (opened : Deletion) (x : Entry) → openBehind opened x ≡ openView opened (showEntry s x)
+open-shown s opened (staticEntry r cs) = refl
+open-shown s opened (rowEntry r vs cs) = refl
+open-shown s opened (markerEntry m n vs) = refl
+
 -- an entry begins with the byte f, which is no end byte, and is read as what it is
 record Begins (t : Widths) (b : Bases) (s : List ℕ) (first : ℕ) (opened : Deletion) (end at n : ℕ) (e : EntryView) : Type 0 where
   byte : ℕ
@@ -72,12 +78,6 @@ module _ (s : List ℕ) (short : length s < 2 ^ 64) (t : Widths) (few : Bounded 
     reads = reads-yes _ _ refl (marker-entry-back s short t few b opened m i end at n back l h);
   }
 
-  -- what is open behind an entry shows
-  open-shown : (opened : Deletion) (x : Entry) → openBehind opened x ≡ openView opened (showEntry s x)
-  open-shown opened (staticEntry r cs) = refl
-  open-shown opened (rowEntry r vs cs) = refl
-  open-shown opened (markerEntry m n vs) = refl
-
   back-le : (e : EntryView) (back k at : ℕ) → back ≤ at → backBehind back k e ≤ at + k
   unfolding backBehind
   back-le (staticView r) back k at l = omega arith
@@ -100,7 +100,7 @@ module _ (s : List ℕ) (short : length s < 2 ^ 64) (t : Widths) (few : Bounded 
       (reads-at _ (c .begins)
       (reads-no _ _ (c .other)
       (reads-on _ (c .reads) (λ x q.
-      reads-on _ (subst (λ o. Reads (entriesAt t b 0 o s (at + length w) end) p (λ xs. showEntries s xs ≡ es)) (sym (open-shown opened x ∙ ap (openView opened) q))
+      reads-on _ (subst (λ o. Reads (entriesAt t b 0 o s (at + length w) end) p (λ xs. showEntries s xs ≡ es)) (sym (open-shown s opened x ∙ ap (openView opened) q))
       (entries-back es 0 (openView opened e) (backBehind back (length w) e) (at + length w) p (back-le e back (length w) at l) (i .1) (stands-right s end at (p + 1) w (v ++ (1 ∷ [])) all))) (λ xs g.
       reads-got (x ∷ xs) p (λ j. q j ∷ g j))))))
 
