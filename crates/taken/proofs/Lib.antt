@@ -3,4 +3,6 @@ pub mod Fitting
 pub mod Spelled
 pub mod Sound
 pub mod Heads
+pub mod Flagging
+pub mod Back
 pub mod Vectors

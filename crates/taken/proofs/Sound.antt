@@ -402,3 +402,16 @@ module _ (d : List ℕ) (short : length d < 2 ^ 64) where
         cell-cases (λ i. cellOf i ≡ c) column c tombstone-same
         (λ e. ((λ f. with-same 11 (says-11 l e f)), (λ f. with-same 3 (says-3 e f))))
         (λ e h. ((λ f. with-same 9 (says-9 l e h f)), (λ f. with-same 1 (says-1 e h f))))
+
+-- ---- the bytes that tell a value and a cell
+pub value-kind : (column : ℕ) (v : Span) → valueItem column v .kind ≡ 5
+unfolding valueItem bind
+value-kind column v = refl
+
+pub cell-kind : (column : ℕ) (c : Cell) → cellItem column c .kind ≡ 6
+unfolding cellItem bind
+cell-kind column c = pick-ind (λ (i : Item). i .kind ≡ 6) _ _ (eqb (c .kind) 2) (λ e. refl) (λ e. refl)
+
+pub cell-column : (column : ℕ) (c : Cell) → cellItem column c .column ≡ column
+unfolding cellItem bind
+cell-column column c = pick-ind (λ (i : Item). i .column ≡ column) _ _ (eqb (c .kind) 2) (λ e. refl) (λ e. refl)

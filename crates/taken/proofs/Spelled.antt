@@ -66,6 +66,14 @@ module _ (s : List ℕ) (end at n : ℕ) (i : Item) (h : Stands s end at n (reco
       stands-byte s end (at + length u) _ (x / 256 ^ 0 % 256) (inside u (bytesOf x 1) w e)
       ∙ rw (div-one x) (mod-eq-of-lt l)
 
+  pub kind-back : i .kind < 256 → getD s at 0 ≡ i .kind
+  unfolding signedBytes kindBytes columnBytes headBytes localBytes timeBytes secondBytes placeBytes tailBytes recordOf bytesOf
+  kind-back l = rw (add-zero at) at (byte [] (bytesOf (i .flags) 1 ++ columnBytes i ++ bytesOf (i .ttl) 4 ++ timeBytes i ++ tailBytes i) (i .kind) refl l)
+
+  pub column-back : i .column < 256 → getD s (at + 2) 0 ≡ i .column
+  unfolding signedBytes kindBytes columnBytes headBytes localBytes timeBytes secondBytes placeBytes tailBytes recordOf bytesOf
+  column-back l = byte (kindBytes i) (bytesOf 0 1 ++ bytesOf (i .ttl) 4 ++ timeBytes i ++ tailBytes i) (i .column) refl l
+
   -- the bytes before offset and length
   abbrev before : List ℕ
   before = headBytes i ++ timeBytes i ++ secondBytes i
@@ -73,9 +81,9 @@ module _ (s : List ℕ) (end at n : ℕ) (i : Item) (h : Stands s end at n (reco
   pub spelled : Sized i → itemOf s at ≡ i
   unfolding signedBytes kindBytes columnBytes headBytes localBytes timeBytes secondBytes placeBytes tailBytes recordOf itemOf bytesOf
   spelled z =
-      let a : getD s at 0 ≡ i .kind = rw (add-zero at) at (byte [] (bytesOf (i .flags) 1 ++ columnBytes i ++ bytesOf (i .ttl) 4 ++ timeBytes i ++ tailBytes i) (i .kind) refl (z .kind)) in
+      let a = kind-back (z .kind) in
       let b = byte (bytesOf (i .kind) 1) (columnBytes i ++ bytesOf (i .ttl) 4 ++ timeBytes i ++ tailBytes i) (i .flags) refl (z .flags) in
-      let c = byte (kindBytes i) (bytesOf 0 1 ++ bytesOf (i .ttl) 4 ++ timeBytes i ++ tailBytes i) (i .column) refl (z .column) in
+      let c = column-back (z .column) in
       let d = number (kindBytes i ++ columnBytes i) (timeBytes i ++ tailBytes i) (i .ttl) 4 refl (z .ttl) in
       let e = signed (headBytes i) (signedBytes (i .mark) ++ localBytes i ++ tailBytes i) (i .timestamp) refl (z .timestamp) in
       let f = signed (headBytes i ++ signedBytes (i .timestamp)) (localBytes i ++ tailBytes i) (i .mark) refl (z .mark) in
