@@ -5,4 +5,5 @@ pub mod Sound
 pub mod Heads
 pub mod Flagging
 pub mod Back
+pub mod Again
 pub mod Vectors
