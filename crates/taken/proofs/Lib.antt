@@ -6,4 +6,5 @@ pub mod Heads
 pub mod Flagging
 pub mod Back
 pub mod Again
+pub mod Items
 pub mod Vectors

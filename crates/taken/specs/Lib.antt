@@ -3,3 +3,4 @@ pub mod Records
 pub mod Tests
 pub mod Entries
 pub mod Writes
+pub mod Listings
