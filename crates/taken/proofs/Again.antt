@@ -46,15 +46,15 @@ use Rattle.taken.proofs.Flagging.{FlaggedEntry, FlaggedEntries, Flagged
 use Rattle.taken.proofs.Back.{Wide, stands-none, stands-first, stands-rest, Two, stands-two, values-back, prefix-back, cells-back}
 
 -- ---- the first byte of an entry's records
-row-kind : (kind : ℕ) (r : Row) → rowItem kind r .kind ≡ kind
+pub row-kind : (kind : ℕ) (r : Row) → rowItem kind r .kind ≡ kind
 unfolding rowItem bind
 row-kind kind r = refl
 
-marker-kind : (m : Marker) (n : ℕ) → markerItem m n .kind ≡ 4
+pub marker-kind : (m : Marker) (n : ℕ) → markerItem m n .kind ≡ 4
 unfolding markerItem bind
 marker-kind m n = refl
 
-end-kind : (p : ℕ) → endItem p .kind ≡ 7
+pub end-kind : (p : ℕ) → endItem p .kind ≡ 7
 unfolding endItem
 end-kind p = refl
 

@@ -222,7 +222,7 @@ static-stands first statics i e = go (mayStand first statics) refl e
     go true f g = f
     go false f g = never g
 
-static-row : (first statics : ℕ) (i : Item) → badStatic first statics i ≡ false → badRow 2 i ≡ false
+pub static-row : (first statics : ℕ) (i : Item) → badStatic first statics i ≡ false → badRow 2 i ≡ false
 unfolding badStatic
 static-row first statics i e = not-then (mayStand first statics) _ _ e (static-stands first statics i e)
 

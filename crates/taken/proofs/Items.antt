@@ -317,7 +317,7 @@ module _ (i : Item) (u : Unused i) where
 
 -- ---- rows
 module _ (kind : ℕ) (few : kind < 4) (i : Item) (g : badRow kind i ≡ false) (u : Unused i) where
-  row-is-kind : i .kind ≡ kind
+  pub row-is-kind : i .kind ≡ kind
   unfolding badRow
   row-is-kind = alike _ _ (not-first (unlike (i .kind) kind) _ g)
 
@@ -362,7 +362,7 @@ module _ (kind : ℕ) (few : kind < 4) (i : Item) (g : badRow kind i ≡ false) 
 
 -- ---- markers
 module _ (opened : Deletion) (i : Item) (g : badMarker opened i ≡ false) (u : Unused i) where
-  marker-is-kind : i .kind ≡ 4
+  pub marker-is-kind : i .kind ≡ 4
   unfolding badMarker
   marker-is-kind = alike _ _ (not-first (unlike (i .kind) 4) _ g)
 
@@ -392,7 +392,7 @@ module _ (opened : Deletion) (i : Item) (g : badMarker opened i ≡ false) (u : 
 
 -- ---- ends
 module _ (opened : Deletion) (i : Item) (g : badEnd opened i ≡ false) (u : Unused i) where
-  end-is-kind : i .kind ≡ 7
+  pub end-is-kind : i .kind ≡ 7
   unfolding badEnd
   end-is-kind = alike _ _ (not-first (unlike (i .kind) 7) _ g)
 

@@ -7,4 +7,5 @@ pub mod Flagging
 pub mod Back
 pub mod Again
 pub mod Items
+pub mod Listed
 pub mod Vectors
