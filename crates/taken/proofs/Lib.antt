@@ -8,4 +8,5 @@ pub mod Back
 pub mod Again
 pub mod Items
 pub mod Listed
+pub mod Shows
 pub mod Vectors
