@@ -329,7 +329,7 @@ module _ (kind : ℕ) (few : kind < 4) (i : Item) (g : badRow kind i ≡ false) 
   unfolding badRowFlags
   row-few = ltb-false 7 (i .flags) (not-first (ltb 7 (i .flags)) _ row-is-flags)
 
-  row-legal : hasTime i ≡ false → hasExpiry i ≡ false
+  pub row-legal : hasTime i ≡ false → hasExpiry i ≡ false
   unfolding hasTime hasExpiry badRowFlags
   row-legal e = yes-bit (i .flags / 2) (half (i .flags) (odd-bit (i .flags) e) (eqb-false (i .flags % 4) 2 (not-second (ltb 7 (i .flags)) _ row-is-flags)))
     where

@@ -9,4 +9,6 @@ pub mod Again
 pub mod Items
 pub mod Listed
 pub mod Shows
+pub mod Lying
+pub mod Laws
 pub mod Vectors
