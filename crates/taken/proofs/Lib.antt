@@ -1,0 +1,14 @@
+pub mod Goods
+pub mod Fitting
+pub mod Spelled
+pub mod Sound
+pub mod Heads
+pub mod Flagging
+pub mod Back
+pub mod Again
+pub mod Items
+pub mod Listed
+pub mod Shows
+pub mod Lying
+pub mod Laws
+pub mod Vectors
