@@ -11,4 +11,5 @@ pub mod Listed
 pub mod Shows
 pub mod Lying
 pub mod Laws
+pub mod Schemas
 pub mod Vectors
