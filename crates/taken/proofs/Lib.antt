@@ -12,4 +12,5 @@ pub mod Shows
 pub mod Lying
 pub mod Laws
 pub mod Schemas
+pub mod Answers
 pub mod Vectors
