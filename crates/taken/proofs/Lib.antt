@@ -11,4 +11,6 @@ pub mod Listed
 pub mod Shows
 pub mod Lying
 pub mod Laws
+pub mod Schemas
+pub mod Answers
 pub mod Vectors
