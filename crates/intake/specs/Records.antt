@@ -1,0 +1,23 @@
+-- What the code says of a record, and a record before the test of its kind. Assumes nothing.
+use Prim.Native.Nat.{ℕ, _-_}
+use lib.Dec.{ltb}
+use Rattle.wire.specs.Choose.{pick, bind}
+use Rattle.wire.specs.Got.{Got, got, bad, Reader}
+use Rattle.wire.specs.declared.refusal.Fault.the-variants.{BadRecord}
+use Rattle.walk.specs.declared.items.Item.{Item}
+use Rattle.taken.specs.Fields.{itemOf, strayBytes, strayNumbers}
+use Rattle.intake.specs.declared.ranges.Record.{Record}
+use Rattle.intake.specs.declared.ranges.Record.the-variants.{Found, Refused}
+
+unfoldable pub saidRecord : Record → Got Item
+saidRecord (Found i n) = got i n
+saidRecord (Refused f p) = bad f p
+
+-- the record at at, nothing stray in it
+unfoldable pub plainAt : Reader Item
+plainAt s at end =
+    pick (ltb (end - at) 64) (bad BadRecord end)
+    (bind (itemOf s at) (λ i.
+    pick (strayBytes s at) (bad BadRecord at)
+    (pick (strayNumbers i) (bad BadRecord at)
+    (got i at))))
