@@ -34,7 +34,7 @@ any : {A : Type 0} (x : Got A) → Gives x (λ a n. Unit)
 any x = record { given = λ a n e. tt }
 
 -- a row leaves the open range as it is
-row-opens : (t : Widths) (b : Bases) (first : ℕ) (s : List ℕ) (at end : ℕ) (opened : Deletion) → Gives (rowEntryAt t b first s at end) (λ e n. openBehind opened e ≡ opened)
+pub row-opens : (t : Widths) (b : Bases) (first : ℕ) (s : List ℕ) (at end : ℕ) (opened : Deletion) → Gives (rowEntryAt t b first s at end) (λ e n. openBehind opened e ≡ opened)
 unfolding rowEntryAt
 row-opens t b first s at end opened =
     gives-on _ (any _) (λ r n g.

@@ -32,18 +32,18 @@ length-first (suc i) [] h = absurd (omega arith)
 length-first (suc i) (w ∷ ws) h = ap suc (length-first i ws (omega arith))
 
 module _ (c s : List ℕ) (k : Counts) (b : Bases) (opened : Deletion) (at : ℕ) (q : Found) (found : saidFound q ≡ markerAt b (widthsAt c 16 (k .clustering)) opened s at (length s)) where
-  abbrev Values : Marker → ℕ → Got Entry
+  abbrev pub Values : Marker → ℕ → Got Entry
   Values m n = on (valuesAt (take (m .count) (widthsAt c 16 (k .clustering))) (m .prefix .header) s (m .prefix .values) (length s)) (λ vs p. got (markerEntry m n vs) n)
 
-  entry-as : markerEntryAt (widthsOf c k) b opened s at (length s) ≡ on (markerAt b (widthsAt c 16 (k .clustering)) opened s at (length s)) Values
+  pub entry-as : markerEntryAt (widthsOf c k) b opened s at (length s) ≡ on (markerAt b (widthsAt c 16 (k .clustering)) opened s at (length s)) Values
   unfolding markerEntryAt widthsOf
   entry-as = refl
 
   module _ (x : Marker) (m : ℕ) (f : q ≡ Read x m) where
-    ok : MarkerOk b (widthsAt c 16 (k .clustering)) opened s at (length s) x m
+    pub ok : MarkerOk b (widthsAt c 16 (k .clustering)) opened s at (length s) x m
     ok = gives-is (marker-gives b (widthsAt c 16 (k .clustering)) opened s at (length s)) (found-got q _ x m found f)
 
-    entry-is : markerEntryAt (widthsOf c k) b opened s at (length s) ≡ got (markerEntry x m (ok .rest .prefix .read)) m
+    pub entry-is : markerEntryAt (widthsOf c k) b opened s at (length s) ≡ got (markerEntry x m (ok .rest .prefix .read)) m
     entry-is =
         let u = ok .rest .prefix in
         entry-as ∙ on-got _ x m Values (found-got q _ x m found f) ∙ on-got _ (u .read) (ok .rest .sizes) _ (u .is)

@@ -45,15 +45,15 @@ row-counted n k r vs (bad f p) e = refl
 
 module _ (c s : List ℕ) (k : Counts) (b : Bases) (first at : ℕ) (q : Found) (told : saidFound q ≡ rowAt b (widthsAt c 16 (k .clustering)) (k .statics) (k .regulars) first s at (length s)) where
   -- the columns' counts are those of the schema
-  row-as : saidFound q ≡ rowAt b (widthsOf c k .clustering) (length (widthsOf c k .statics)) (length (widthsOf c k .regulars)) first s at (length s)
+  pub row-as : saidFound q ≡ rowAt b (widthsOf c k .clustering) (length (widthsOf c k .statics)) (length (widthsOf c k .regulars)) first s at (length s)
   unfolding widthsOf
   row-as = rw (widths-count c (16 + 16 * k .clustering) (k .statics), widths-count c (16 + 16 * (k .clustering + k .statics)) (k .regulars)) told
 
   module _ (r : Row) (m : ℕ) (f : q ≡ Read r m) where
-    ok : RowOk b (widthsAt c 16 (k .clustering)) (k .statics) (k .regulars) s at (length s) r m
+    pub ok : RowOk b (widthsAt c 16 (k .clustering)) (k .statics) (k .regulars) s at (length s) r m
     ok = gives-is (row-gives b (widthsAt c 16 (k .clustering)) (k .statics) (k .regulars) first s at (length s)) (row-got q _ r m told f)
 
-    entry-as : rowEntryAt (widthsOf c k) b first s at (length s)
+    pub entry-as : rowEntryAt (widthsOf c k) b first s at (length s)
         ≡ pick (eqb (r .extended) 1)
         (on (bodyCellsAt b (widthsOf c k .statics) (r .body) s m) (λ cs p. got (staticEntry r cs) p))
         (on (valuesAt (widthsOf c k .clustering) (r .prefix .header) s (r .prefix .values) (length s)) (λ vs p.

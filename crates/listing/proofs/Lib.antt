@@ -2,3 +2,10 @@
 pub mod Stores
 pub mod Loops
 pub mod Answers
+pub mod Writing
+pub mod PutCells
+pub mod PutValues
+pub mod PutRows
+pub mod PutMarkers
+pub mod PutEntries
+pub mod PutContents

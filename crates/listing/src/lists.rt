@@ -9,13 +9,10 @@ ghost use Rattle.wire.specs.declared.refusal.Slice.the-variants.{Output};
 ghost use Rattle.walk.specs.Tables.{Table};
 ghost use Rattle.walk.specs.Walks.{start, walkFrom};
 ghost use Rattle.listing.specs.Lists.{listAt, counted, recordBytes, saidListed, Ready, Lists};
-use crate::records;
+use crate::fills;
 use counting::counts;
 use schema::records::Checked;
 use schema::records::Counts;
-use walk::cursors::Cursor;
-use walk::steps;
-use walk::steps::Step;
 use walk::tables;
 use wire::number::Num;
 use wire::refusal::Fault;
@@ -61,22 +58,7 @@ fn fill(c: &[u8], k: Counts, b: Bases, s: &[u8], d: &mut [u8])
     requires { ⌜ Table (length (now c)) k × Ready (walkFrom (now c) k b (now s) start) (length (now d)) ⌝ }
     ensures { λ _. ⌜ now (d .exit) ≡ splice (now (d .entry)) 0 (recordBytes (walkFrom (now (c .entry)) k b (now (s .entry)) start)) ⌝ }
 {
-    let mut x = Cursor::start();
-    let mut at: usize = 0;
-    loop {
-        match steps::step_in(c, k, b, s, x) {
-            Step::Next { item, cursor } => {
-                at = records::put_record(d, at, item);
-                x = cursor;
-            }
-            Step::Done => {
-                return;
-            }
-            Step::Refused(_) => {
-                return;
-            }
-        }
-    }
+    fills::put_contents(c, k, b, s, d);
 }
 
 // How many records the Data has, in a table of the schema and the bases; or why it is refused.

@@ -91,7 +91,9 @@ fn cell_flags(kind: u8, len: usize) -> u64
     1
 }
 
-pub(crate) fn partition_item(p: Partition) -> Item
+// A partition's header.
+// Internal, as the items below: for callers that read Data.
+pub fn partition_item(p: Partition) -> Item
     ensures { λ r. ⌜ r ≡ partitionItem p ⌝ }
 {
     let key = p.key;
@@ -115,7 +117,7 @@ pub(crate) fn partition_item(p: Partition) -> Item
 }
 
 // A row, or (kind 2) a static one.
-pub(crate) fn row_item(kind: u64, row: Row) -> Item
+pub fn row_item(kind: u64, row: Row) -> Item
     ensures { λ r. ⌜ r ≡ rowItem kind row ⌝ }
 {
     let body = row.body;
@@ -141,7 +143,7 @@ pub(crate) fn row_item(kind: u64, row: Row) -> Item
 }
 
 // A marker that ends at stop.
-pub(crate) fn marker_item(m: Marker, stop: usize) -> Item
+pub fn marker_item(m: Marker, stop: usize) -> Item
     ensures { λ r. ⌜ r ≡ markerItem m stop ⌝ }
 {
     let both = m.deletions;
@@ -166,7 +168,7 @@ pub(crate) fn marker_item(m: Marker, stop: usize) -> Item
 }
 
 // A clustering value.
-pub(crate) fn value_item(column: u64, v: Span) -> Item
+pub fn value_item(column: u64, v: Span) -> Item
     ensures { λ r. ⌜ r ≡ valueItem column v ⌝ }
 {
     let flags = partition_flags(0, v.len);
@@ -186,7 +188,8 @@ pub(crate) fn value_item(column: u64, v: Span) -> Item
     }
 }
 
-pub(crate) fn cell_item(column: u64, cell: Cell) -> Item
+// The cell of a column.
+pub fn cell_item(column: u64, cell: Cell) -> Item
     ensures { λ r. ⌜ r ≡ cellItem column cell ⌝ }
 {
     if cell.kind == 2 {
@@ -224,7 +227,7 @@ pub(crate) fn cell_item(column: u64, cell: Cell) -> Item
 }
 
 // The end byte at at.
-pub(crate) fn end_item(at: usize) -> Item
+pub fn end_item(at: usize) -> Item
     ensures { λ r. ⌜ r ≡ endItem at ⌝ }
 {
     Item {
