@@ -3,16 +3,14 @@ use mathlib.Core.Path.{_≡_, refl, sym, ap, _∙_}
 use mathlib.Core.Bool.{Bool, true, false}
 use mathlib.Core.List.{List, [], _∷_}
 use mathlib.Core.Option.{Option, none, some}
-use Prim.Native.Nat.{ℕ, zero, suc, _+_, _-_, _*_, _/_, _%_, _^_, _≤_, _<_}
+use Prim.Native.Nat.{ℕ, zero, suc, _+_, _*_, _/_, _%_, _^_, _≤_, _<_}
 use native.Mathlib.Omega.{arith}
 use native.Mathlib.Nat.{pow-suc}
 use borrow.Author.Tests.{lt-ltb, le-ltb, eq-eqb, ne-eqb}
-use lib.Count.{trailingZeros, under, trailing-le}
-use lib.Dec.{ltb, eqb}
+use lib.Count.{trailingZeros, under}
+use lib.Dec.{ltb}
 use lib.ListN.{length, getD}
 use lib.Pow.{shr-shr, shr-le, pow-pos}
-use mir.Syntax.{w64}
-use mir.Val.{Fits}
 use Rattle.wire.specs.Choose.{pick}
 use Rattle.wire.specs.Got.{Got, got, bad, on, saidNum}
 use Rattle.wire.specs.declared.refusal.Fault.{Fault}

@@ -1,8 +1,7 @@
 -- The entries of a partition, counted one by one. Assumes nothing.
-use mathlib.Core.Path.{_≡_, refl, sym, ap, subst, _∙_}
-use mathlib.Core.Bool.{Bool, true, false}
-use mathlib.Core.List.{List, [], _∷_, _++_}
-use Prim.Native.Nat.{ℕ, zero, suc, _+_, _-_, _*_, _≤_, _<_}
+use mathlib.Core.Path.{_≡_, refl, sym, ap, _∙_}
+use mathlib.Core.List.{List, [], _∷_}
+use Prim.Native.Nat.{ℕ, _+_, _-_, _*_, _≤_, _<_}
 use native.Mathlib.Omega.{arith}
 use borrow.Author.Tests.{eq-eqb, ne-eqb}
 use lib.Dec.{eqb}
@@ -15,7 +14,7 @@ use Rattle.wire.specs.declared.number.Num.{Num}
 use Rattle.wire.specs.declared.number.Num.the-variants.{Number, Refused as num-refused}
 use Rattle.wire.specs.declared.times.Bases.{Bases}
 use Rattle.wire.proofs.Choose.{pick-yes, pick-no}
-use Rattle.wire.proofs.Gives.{Gives, gives-got, gives-on, gives-pick, gives-is}
+use Rattle.wire.proofs.Gives.{Gives, gives-got, gives-on, gives-pick}
 use Rattle.wire.proofs.Said.{num-got}
 use Rattle.cell.specs.Fields.{live, byteAt}
 use Rattle.cell.specs.declared.fields.Deletion.{Deletion}
@@ -28,7 +27,7 @@ use Rattle.counting.specs.Counted.{entryCounted, markerCounted, entriesC
 use Rattle.counting.specs.declared.counts.Passed.{Passed}
 use Rattle.counting.specs.declared.counts.Passed.the-variants.{To, Refused}
 use Rattle.counting.proofs.Follows.{on-got, on-bad, num-bad}
-use Rattle.counting.proofs.Many.{Few, table-few, entry-most}
+use Rattle.counting.proofs.Many.{table-few, entry-most}
 
 any : {A : Type 0} (x : Got A) → Gives x (λ a n. Unit)
 any x = record { given = λ a n e. tt }

@@ -1,5 +1,5 @@
 -- What follows a reading. Assumes nothing.
-use mathlib.Core.Path.{_≡_, refl, sym, ap, _∙_}
+use mathlib.Core.Path.{_≡_, refl, sym, _∙_}
 use Prim.Native.Nat.{ℕ}
 use Rattle.wire.specs.Got.{Got, got, bad, on, saidNum}
 use Rattle.wire.specs.declared.refusal.Fault.{Fault}

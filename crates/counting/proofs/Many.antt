@@ -1,23 +1,21 @@
 -- How many items there are at most: each entry has a byte or more, and at most 32 values and 63 cells. Assumes nothing.
-use mathlib.Core.Path.{_≡_, refl, sym, ap, _∙_}
-use mathlib.Core.List.{List, [], _∷_, _++_}
+use mathlib.Core.Path.{_≡_, refl, ap}
+use mathlib.Core.List.{List, [], _∷_}
 use mathlib.Core.Option.{Option, none, some}
-use Prim.Native.Nat.{ℕ, zero, suc, _+_, _-_, _*_, _≤_, _<_}
+use Prim.Native.Nat.{ℕ, zero, suc, _+_, _-_, _*_, _≤_}
 use native.Mathlib.Omega.{arith}
-use lib.ListN.{length, take, length-append, length-take}
+use lib.ListN.{length, take, length-append}
 use Rattle.wire.specs.declared.times.Bases.{Bases}
-use Rattle.cell.specs.Fields.{live}
 use Rattle.cell.specs.declared.fields.Deletion.{Deletion}
 use Rattle.cell.specs.declared.fields.Span.{Span}
 use Rattle.cell.specs.declared.cells.Times.{Times}
 use Rattle.cell.specs.declared.cells.Cell.{Cell}
-use Rattle.clustering.specs.Prefixes.{widthsAt}
 use Rattle.clustering.proofs.Gives.{ValuesIn}
 use Rattle.clustering.proofs.Loops.{widths-count}
 use Rattle.schema.specs.declared.records.Counts.{Counts}
 use Rattle.walk.specs.Tables.{Table}
-use Rattle.contents.specs.Contents.{Widths, widthsOf, Entry, staticEntry, rowEntry, markerEntry, Contents, openBehind, valuesListed, cellsListed, entryListed, entriesListed, partitionListed, listed}
-use Rattle.contents.proofs.Gives.{CellsIn, EntryIn, EntriesIn, ContentsIn, AllIn, entry-moves}
+use Rattle.contents.specs.Contents.{Widths, widthsOf, Entry, staticEntry, rowEntry, markerEntry, openBehind, valuesListed, cellsListed, entryListed, entriesListed}
+use Rattle.contents.proofs.Gives.{CellsIn, EntryIn, EntriesIn, entry-moves}
 
 pub many-values : (i : ℕ) (vs : List Span) → length (valuesListed i vs) ≡ length vs
 many-values i [] = refl

@@ -4,12 +4,11 @@ use mathlib.Core.List.{List, [], _∷_}
 use Prim.Native.Nat.{ℕ, zero, suc, _+_, _≤_, _<_}
 use native.Mathlib.Omega.{arith}
 use lib.ListN.{length, take}
-use Rattle.wire.specs.Got.{Got, got, bad, on}
+use Rattle.wire.specs.Got.{Got, got, on}
 use Rattle.wire.specs.declared.refusal.Fault.{Fault}
 use Rattle.wire.specs.declared.times.Bases.{Bases}
 use Rattle.wire.proofs.Gives.{gives-is}
 use Rattle.cell.specs.declared.fields.Deletion.{Deletion}
-use Rattle.cell.specs.declared.fields.Span.{Span}
 use Rattle.clustering.specs.Prefixes.{valuesAt, widthsAt}
 use Rattle.clustering.proofs.Loops.{widths-count}
 use Rattle.marker.specs.Markers.{markerAt, openAfter, saidFound}
@@ -20,7 +19,7 @@ use Rattle.marker.proofs.Gives.{MarkerOk, marker-gives}
 use Rattle.marker.proofs.Said.{found-got}
 use Rattle.schema.specs.declared.records.Counts.{Counts}
 use Rattle.walk.specs.Tables.{Table}
-use Rattle.contents.specs.Contents.{widthsOf, Entry, markerEntry, openBehind, markerEntryAt, entryListed}
+use Rattle.contents.specs.Contents.{widthsOf, Entry, markerEntry, markerEntryAt, entryListed}
 use Rattle.counting.specs.Counted.{markerCounted, saidPassed}
 use Rattle.counting.specs.declared.counts.Passed.the-variants.{To, Refused as passed-refused}
 use Rattle.counting.proofs.Follows.{on-got, on-bad}

@@ -1,9 +1,9 @@
 -- A row counted: its values, which reading it has shown to be there, and its cells. Assumes nothing.
 use mathlib.Core.Path.{_≡_, refl, sym, ap, _∙_}
-use mathlib.Core.List.{List, [], _∷_, _++_}
+use mathlib.Core.List.{List, []}
 use mathlib.Core.Logic.{_⊎_, inl, inr}
 use mathlib.Core.Option.{Option}
-use Prim.Native.Nat.{ℕ, zero, suc, _+_, _*_, _≤_}
+use Prim.Native.Nat.{ℕ, _+_, _*_, _≤_}
 use native.Mathlib.Omega.{arith}
 use borrow.Author.Tests.{eq-eqb, ne-eqb}
 use lib.Dec.{eqb}
@@ -28,7 +28,7 @@ use Rattle.row.specs.declared.rows.Found.the-variants.{Read, Refused}
 use Rattle.row.proofs.Gives.{RestOk, RowOk, row-gives}
 use Rattle.row.proofs.Said.{row-got}
 use Rattle.schema.specs.declared.records.Counts.{Counts}
-use Rattle.contents.specs.Contents.{widthsOf, Entry, staticEntry, rowEntry, bodyCellsAt, rowEntryAt, valuesListed, cellsListed, entryListed}
+use Rattle.contents.specs.Contents.{widthsOf, staticEntry, rowEntry, bodyCellsAt, rowEntryAt, valuesListed, cellsListed}
 use Rattle.counting.specs.Counted.{wholeCellsAt, cellsCounted, entryCounted}
 use Rattle.counting.proofs.Follows.{on-got}
 use Rattle.counting.proofs.Many.{many-values, values-count}

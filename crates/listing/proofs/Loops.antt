@@ -1,20 +1,13 @@
 -- What is counted and stored is what the walk lists. Assumes nothing.
 use mathlib.Core.Path.{_≡_, refl, sym, ap, _∙_}
-use mathlib.Core.List.{List, [], _∷_, _++_}
-use mathlib.Core.Option.{Option, none, some}
-use Prim.Native.Nat.{ℕ, zero, suc, _+_, _-_, _*_, _^_, _≤_, _<_}
+use mathlib.Core.List.{List, [], _∷_}
+use Prim.Native.Nat.{ℕ, _+_, _*_}
 use native.Mathlib.Omega.{arith}
 use lib.ListN.{length, length-append}
-use mir.Syntax.{w64}
-use mir.Val.{Fits}
 use Rattle.wire.specs.BigEndian.{bytesOf}
-use Rattle.wire.specs.Choose.{bind}
-use Rattle.wire.specs.Refusals.{Outcome, taken, refused, saidRefusal}
-use Rattle.wire.specs.Store.{splice, Room, Puts}
-use Rattle.wire.specs.declared.refusal.Refusal.{Refusal}
+use Rattle.wire.specs.Refusals.{taken, refused}
+use Rattle.wire.specs.Store.{splice}
 use Rattle.wire.specs.declared.times.Bases.{Bases}
-use Rattle.wire.proofs.BigEndian.{length-bytesOf}
-use Rattle.wire.proofs.Splices.{Filling, filling-none, filling-all, filling-fits, filling-more}
 use Rattle.wire.specs.Got.{Got, got, bad, saidNum}
 use Rattle.wire.specs.declared.refusal.Fault.{Fault}
 use Rattle.wire.specs.declared.refusal.Slice.{Slice}
@@ -28,18 +21,11 @@ use Rattle.contents.proofs.Lists.{walk-lists}
 use Rattle.counting.specs.Counted.{contentsCounted}
 use Rattle.counting.proofs.Follows.{num-bad}
 use Rattle.schema.specs.declared.records.Counts.{Counts}
-use Rattle.walk.specs.Cursors.{atItems}
-use Rattle.walk.specs.Steps.{Answer, stepIn, saidStep}
-use Rattle.walk.specs.Tables.{Table, after, tableAt}
-use Rattle.walk.specs.Walks.{start, remaining, add, follow, walkFrom}
+use Rattle.walk.specs.Tables.{Table}
+use Rattle.walk.specs.Walks.{start, walkFrom}
 use Rattle.walk.specs.declared.items.Item.{Item}
-use Rattle.walk.specs.declared.cursors.Cursor.{Cursor}
-use Rattle.walk.specs.declared.steps.Step.{Step}
-use Rattle.walk.specs.declared.steps.Step.the-variants.{Next, Done, Refused as step-refused}
-use Rattle.walk.proofs.Moves.{step-moves, walk-unfolds}
 use Rattle.listing.specs.Records.{signedBytes, kindBytes, columnBytes, headBytes, localBytes, timeBytes, secondBytes, placeBytes, tailBytes, recordOf, recordsOf}
-use Rattle.listing.specs.Lists.{listAt, counted, fitted, recordBytes, kept, saidListed, Ready, Lists}
-use Rattle.listing.specs.declared.lists.Listed.{Listed}
+use Rattle.listing.specs.Lists.{counted, recordBytes, saidListed, Ready}
 use Rattle.listing.specs.declared.lists.Listed.the-variants.{Records, Refused}
 
 -- ---- a record has 64 bytes

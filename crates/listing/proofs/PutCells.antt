@@ -3,12 +3,12 @@ use mathlib.Core.Path.{_≡_, refl, sym, ap, _∙_}
 use mathlib.Core.Bool.{Bool, true, false}
 use mathlib.Core.List.{List, [], _∷_, _++_}
 use mathlib.Core.Option.{Option, none, some}
-use Prim.Native.Nat.{ℕ, zero, suc, _+_, _-_, _*_, _/_, _%_, _^_, _≤_, _<_}
+use Prim.Native.Nat.{ℕ, zero, suc, _+_, _*_, _/_, _%_, _^_, _≤_, _<_}
 use native.Mathlib.Omega.{arith}
 use native.Mathlib.Nat.{pow-suc}
 use borrow.Author.Tests.{eq-eqb, ne-eqb}
 use lib.Count.{trailingZeros, under}
-use lib.Dec.{ltb, eqb}
+use lib.Dec.{ltb}
 use lib.ListN.{length, getD}
 use lib.Pow.{shr-shr, shr-le, pow-pos}
 use Rattle.wire.specs.Choose.{pick}
@@ -28,7 +28,7 @@ use Rattle.row.specs.Bodies.{columns}
 use Rattle.walk.specs.Items.{cellItem}
 use Rattle.walk.specs.declared.items.Item.{Item}
 use Rattle.contents.specs.Contents.{cellsAt, cellsListed}
-use Rattle.contents.proofs.Follows.{Parted, parted}
+use Rattle.contents.proofs.Follows.{parted}
 use Rattle.counting.specs.Counted.{wholeCellsAt}
 use Rattle.listing.specs.Records.{recordOf, recordsOf}
 use Rattle.listing.specs.Parts.{cellsOf, Fitting}

@@ -1,31 +1,28 @@
 -- A marker stored: its record and its values. Assumes nothing.
 use mathlib.Core.Path.{_≡_, refl, sym, ap, _∙_}
-use mathlib.Core.List.{List, [], _∷_, _++_}
+use mathlib.Core.List.{List, _∷_}
 use Prim.Native.Nat.{ℕ, _+_, _*_, _≤_}
 use native.Mathlib.Omega.{arith}
-use lib.ListN.{length, take}
-use Rattle.wire.specs.Got.{Got, got, bad, on}
+use lib.ListN.{length}
+use Rattle.wire.specs.Got.{Got, got}
 use Rattle.wire.specs.Store.{Room, Puts}
 use Rattle.wire.specs.declared.refusal.Fault.{Fault}
 use Rattle.wire.specs.declared.times.Bases.{Bases}
-use Rattle.wire.proofs.Gives.{gives-is}
 use Rattle.cell.specs.declared.fields.Deletion.{Deletion}
-use Rattle.cell.specs.declared.fields.Span.{Span}
 use Rattle.clustering.specs.Prefixes.{valuesAt, widthsAt}
 use Rattle.clustering.proofs.Loops.{widths-count}
 use Rattle.marker.specs.Markers.{markerAt, openAfter, saidFound}
 use Rattle.marker.specs.declared.markers.Marker.{Marker}
 use Rattle.marker.specs.declared.markers.Found.{Found}
 use Rattle.marker.specs.declared.markers.Found.the-variants.{Read, Refused}
-use Rattle.marker.proofs.Gives.{MarkerOk, marker-gives}
-use Rattle.marker.proofs.Said.{found-got}
+use Rattle.marker.proofs.Gives.{MarkerOk}
 use Rattle.schema.specs.declared.records.Counts.{Counts}
 use Rattle.walk.specs.Items.{markerItem}
 use Rattle.walk.specs.Tables.{Table}
 use Rattle.walk.specs.declared.items.Item.{Item}
-use Rattle.contents.specs.Contents.{widthsOf, Entry, markerEntry, openBehind, markerEntryAt, entryListed}
+use Rattle.contents.specs.Contents.{widthsOf, Entry, markerEntry, openBehind, markerEntryAt}
 use Rattle.contents.proofs.Values.{widths-take}
-use Rattle.counting.proofs.Follows.{on-got, on-bad}
+use Rattle.counting.proofs.Follows.{on-bad}
 use Rattle.counting.proofs.Markers.{ok, entry-as, entry-is}
 use Rattle.listing.specs.Records.{recordOf, recordsOf}
 use Rattle.listing.specs.Parts.{valuesOf, entryOf, boundOf, Fitting, FittingBound, PutsMarker}

@@ -1,21 +1,16 @@
 -- A row stored: its record, its values, its cells. Assumes nothing.
 use mathlib.Core.Path.{_≡_, refl, sym, ap, _∙_}
 use mathlib.Core.List.{List, [], _∷_, _++_, append-assoc}
-use mathlib.Core.Logic.{_⊎_, inl, inr}
 use mathlib.Core.Option.{Option}
 use Prim.Native.Nat.{ℕ, _+_, _*_, _≤_}
-use native.Mathlib.Omega.{arith}
 use borrow.Author.Tests.{eq-eqb, ne-eqb}
-use lib.Dec.{eqb}
 use lib.ListN.{length}
-use Rattle.wire.specs.Choose.{pick}
-use Rattle.wire.specs.Got.{Got, got, bad, on}
+use Rattle.wire.specs.Got.{Got, got, on}
 use Rattle.wire.specs.Store.{Room, Puts}
 use Rattle.wire.specs.declared.refusal.Fault.{Fault}
 use Rattle.wire.specs.declared.times.Bases.{Bases}
 use Rattle.wire.proofs.Choose.{pick-yes, pick-no}
 use Rattle.wire.proofs.Puts.{room-left, room-right, puts-then}
-use Rattle.cell.specs.declared.fields.Span.{Span}
 use Rattle.cell.specs.declared.cells.Cell.{Cell}
 use Rattle.clustering.specs.Prefixes.{valuesAt, widthsAt}
 use Rattle.row.specs.Bodies.{columns}
@@ -26,10 +21,9 @@ use Rattle.row.specs.declared.rows.Found.the-variants.{Read, Refused}
 use Rattle.schema.specs.declared.records.Counts.{Counts}
 use Rattle.walk.specs.Items.{rowItem}
 use Rattle.walk.specs.declared.items.Item.{Item}
-use Rattle.contents.specs.Contents.{widthsOf, Entry, staticEntry, rowEntry, bodyCellsAt, rowEntryAt, valuesListed, cellsListed, entryListed}
+use Rattle.contents.specs.Contents.{widthsOf, Entry, staticEntry, rowEntry, bodyCellsAt, rowEntryAt, cellsListed, entryListed}
 use Rattle.contents.proofs.Follows.{Parted, parted}
 use Rattle.contents.proofs.Gives.{body-cells-give, row-placed}
-use Rattle.row.proofs.Gives.{RowOk}
 use Rattle.counting.specs.Counted.{wholeCellsAt}
 use Rattle.counting.proofs.Follows.{on-bad}
 use Rattle.counting.proofs.Rows.{row-as, ok, entry-as, present-statics, present-regulars}
