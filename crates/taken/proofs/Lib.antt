@@ -13,4 +13,5 @@ pub mod Lying
 pub mod Laws
 pub mod Schemas
 pub mod Answers
+pub mod Moved
 pub mod Vectors
