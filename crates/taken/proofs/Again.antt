@@ -59,21 +59,21 @@ unfolding endItem
 end-kind p = refl
 
 -- ---- equal views
-row-view : (x y : RowView) → x .times ≡ y .times → x .deletion ≡ y .deletion → x .cells ≡ y .cells → x ≡ y
+pub row-view : (x y : RowView) → x .times ≡ y .times → x .deletion ≡ y .deletion → x .cells ≡ y .cells → x ≡ y
 row-view x y e f g = rw3 (x .times) (y .times) e (x .deletion) (y .deletion) f (x .cells) (y .cells) g
   where
     rw3 : (a b : Times) → a ≡ b → (c d : Deletion) → c ≡ d → (u v : List _) → u ≡ v → _≡_ {A = RowView} (record { times = a; deletion = c; cells = u }) (record { times = b; deletion = d; cells = v })
     rw3 a b e c d f u v g = rw (e, f, g) refl
 
-marker-view : (k l : ℕ) → k ≡ l → (u v : List (List ℕ)) → u ≡ v → (c d : Deletions) → c ≡ d
+pub marker-view : (k l : ℕ) → k ≡ l → (u v : List (List ℕ)) → u ≡ v → (c d : Deletions) → c ≡ d
     → _≡_ {A = MarkerView} (record { kind = k; values = u; deletions = c }) (record { kind = l; values = v; deletions = d })
 marker-view k l e u v f c d g = rw (e, f, g) refl
 
-partition-view : (k l : List ℕ) → k ≡ l → (c d : Deletion) → c ≡ d → (u v : List EntryView) → u ≡ v
+pub partition-view : (k l : List ℕ) → k ≡ l → (c d : Deletion) → c ≡ d → (u v : List EntryView) → u ≡ v
     → _≡_ {A = PartitionView} (record { key = k; deletion = c; entries = u }) (record { key = l; deletion = d; entries = v })
 partition-view k l e c d f u v g = rw (e, f, g) refl
 
-pair : (x y : EntryView) → x ≡ y → (u v : List EntryView) → u ≡ v → _≡_ {A = List EntryView} (x ∷ u) (y ∷ v)
+pub pair : (x y : EntryView) → x ≡ y → (u v : List EntryView) → u ≡ v → _≡_ {A = List EntryView} (x ∷ u) (y ∷ v)
 pair x y e u v f = rw (e, f) refl
 
 -- columns of all roles have a width

@@ -14,4 +14,5 @@ pub mod Laws
 pub mod Schemas
 pub mod Answers
 pub mod Moved
+pub mod Carried
 pub mod Vectors
