@@ -15,4 +15,5 @@ pub mod Schemas
 pub mod Answers
 pub mod Moved
 pub mod Carried
+pub mod Exactly
 pub mod Vectors
