@@ -1,5 +1,5 @@
--- "It takes exactly the record sequences that some accepted Data lists as, under the bases given, places aside": a proper table that shows what
--- an accepted Data lists is taken. Assumes nothing.
+-- "It takes exactly the record sequences that some accepted Data lists as, under the bases given, places aside": what is
+-- taken is such a table, and every such table is taken. Assumes nothing.
 use mathlib.Core.Path.{_≡_, refl, sym, subst, ap, _∙_}
 use mathlib.Core.Bool.{Bool, true, false}
 use mathlib.Core.List.{List, [], _∷_}
@@ -20,16 +20,17 @@ use Rattle.listing.specs.Records.{recordsOf}
 use Rattle.listing.proofs.Loops.{length-recordsOf}
 use Rattle.forms.specs.Views.{showContents}
 use Rattle.forms.specs.Fits.{Bounded}
+use Rattle.forms.specs.Whole.{contentsBytes}
 use Rattle.taken.specs.Fields.{itemOf, strayBytes}
 use Rattle.taken.specs.Tests.{badPlace, badNowhere}
 use Rattle.taken.specs.Entries.{takenAt}
 use Rattle.taken.specs.Listings.{itemsFrom, itemsOf, nowhere, ItemView, showItem, showItems, misplaced, Proper}
 use Rattle.taken.proofs.Goods.{not-then}
 use Rattle.taken.proofs.Again.{AllWide, records-back}
-use Rattle.taken.proofs.Listed.{taken-listed}
+use Rattle.taken.proofs.Listed.{taken-listed, taken-proper}
 use Rattle.taken.proofs.Shows.{shows-same}
 use Rattle.taken.proofs.Lying.{read-lies, taken-lies}
-use Rattle.taken.proofs.Laws.{lists-alike}
+use Rattle.taken.proofs.Laws.{ListsAs, lists-alike, taken-lists}
 use Rattle.taken.proofs.Moved.{Follows, placed, placed-is, Placed, Moved}
 use Rattle.taken.proofs.Carried.{Carried, taken-carried}
 
@@ -133,3 +134,20 @@ lists-taken t few wide b d short octets ps n e bytes s g h =
     let long : length own ≡ length s = omega (arith, g .whole) in
     let q = like-taken d own bytes s (length own / 64) all (omega (arith, g .whole)) (subst (λ k. showItems d (itemsFrom own 0 (length own / 64)) ≡ showItems bytes (itemsFrom s 0 k)) (sym count) same) g t b (r .value) (length own) (r .is) in
     subst (λ z. Reads (takenAt t b bytes s 0 z) z (λ us. showContents bytes us ≡ showContents d ps)) long (record { value = q .value; is = q .is; holds = sym (q .holds) ∙ r .holds })
+
+-- some accepted Data lists as items that show xs
+pub record Listable (t : Widths) (b : Bases) (xs : List ItemView) : Type 0 where
+  pub «data» : List ℕ
+  pub short : length «data» < 2 ^ 64
+  pub lists : ListsAs t b «data» xs
+
+-- what is taken is a proper table, and the Data that is written of it lists as the table, places aside
+pub taken-only : (t : Widths) → Bounded t → (b : Bases) (bytes s : List ℕ) → length bytes < 2 ^ 64 → (qs : List Contents) (n : ℕ) → takenAt t b bytes s 0 (length s) ≡ got qs n
+    → length (contentsBytes b t bytes qs) < 2 ^ 64 → Proper bytes s × Listable t b (showItems bytes (itemsOf s))
+taken-only t few b bytes s short qs n e l =
+    (taken-proper t b bytes s .given qs n e, record { «data» = contentsBytes b t bytes qs; short = l; lists = taken-lists t b few bytes s short qs n e l })
+
+-- and every such table is taken
+pub taken-all : (t : Widths) → Bounded t → AllWide t → (b : Bases) (bytes s : List ℕ) → Proper bytes s → (x : Listable t b (showItems bytes (itemsOf s))) → ((k : ℕ) → getD (x .«data») k 0 < 256)
+    → Reads (takenAt t b bytes s 0 (length s)) (length s) (λ us. showContents bytes us ≡ showContents (x .«data») (x .lists .value))
+taken-all t few wide b bytes s g x octets = lists-taken t few wide b (x .«data») (x .short) octets (x .lists .value) _ (x .lists .is) bytes s g (x .lists .holds)
