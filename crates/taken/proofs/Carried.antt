@@ -3,31 +3,28 @@ use mathlib.Core.Path.{_≡_, refl, sym, subst, ap, _∙_}
 use mathlib.Core.Bool.{Bool, true, false}
 use mathlib.Core.List.{List, [], _∷_}
 use mathlib.Core.Option.{Option, none, some}
-use Prim.Native.Nat.{ℕ, zero, suc, _+_, _-_, _*_, _≤_, _<_}
+use Prim.Native.Nat.{ℕ, zero, suc, _+_, _-_, _*_, _≤_}
 use native.Mathlib.Omega.{arith}
-use borrow.Author.Tests.{le-ltb, ltb-false}
-use lib.Dec.{ltb, eqb}
+use lib.Dec.{eqb}
 use lib.ListN.{length, getD}
 use Rattle.wire.specs.Choose.{pick}
-use Rattle.wire.specs.Got.{Got, got, bad, on}
+use Rattle.wire.specs.Got.{got, on}
 use Rattle.wire.specs.Store.{shown}
-use Rattle.wire.specs.declared.refusal.Fault.the-variants.{BadRecord}
 use Rattle.wire.specs.declared.times.Bases.{Bases}
 use Rattle.cell.specs.Fields.{deletion, live}
 use Rattle.cell.specs.declared.fields.Deletion.{Deletion}
-use Rattle.cell.specs.declared.fields.Span.{Span}
 use Rattle.cell.specs.declared.cells.Cell.{Cell}
 use Rattle.marker.specs.declared.markers.Deletions.{Deletions}
 use Rattle.walk.specs.Items.{showsValue}
 use Rattle.walk.specs.declared.items.Item.{Item}
-use Rattle.contents.specs.Contents.{Widths, Entry, staticEntry, rowEntry, markerEntry, Contents, openBehind}
-use Rattle.forms.specs.Views.{CellView, RowView, MarkerView, EntryView, staticView, rowView, markerView, PartitionView, showValue, showValues, showCell, showCells, showRow, showEntry, showEntries, showPartition, showContents}
+use Rattle.contents.specs.Contents.{Widths, Entry, Contents, openBehind}
+use Rattle.forms.specs.Views.{CellView, RowView, MarkerView, staticView, rowView, markerView, PartitionView, showValue, showValues, showCell, showCells, showRow, showEntry, showEntries, showPartition, showContents}
 use Rattle.forms.specs.Fits.{openView}
 use Rattle.forms.proofs.Whole.{open-shown}
 use Rattle.taken.specs.Fields.{itemOf}
 use Rattle.taken.specs.Records.{recordAt, kindAt}
 use Rattle.taken.specs.Tests.{unlike, badPartition, badRow, badStatic, badMarker, badClustering, badCell, badEnd}
-use Rattle.taken.specs.Entries.{valueOf, deletionOf, secondOf, timesOf, deletionsOf, cellOf, rowOf, markerOf, partitionOf, takenValues, takenPrefix, isCell, takenCells, takenStatic, takenRow, takenMarker, takenEntry, takenEnd, takenEntriesIn, takenEntries, baseless, takenPartition, takenIn, takenAt}
+use Rattle.taken.specs.Entries.{valueOf, deletionOf, deletionsOf, cellOf, rowOf, takenValues, takenPrefix, isCell, takenCells, takenStatic, takenRow, takenMarker, takenEntry, takenEnd, takenEntriesIn, takenEntries, baseless, takenPartition, takenIn, takenAt}
 use Rattle.taken.proofs.Goods.{not-first, alike}
 use Rattle.taken.proofs.Again.{row-view, marker-view, partition-view, pair}
 use Rattle.taken.proofs.Moved.{Follows, follows-got, follows-bad, follows-on, follows-pick, placed, Placed, to-clustering, to-cell, to-partition, to-cell-view, to-row, to-static, to-marker, to-end, to-times, to-deletion, to-second, Moved, record-follows}

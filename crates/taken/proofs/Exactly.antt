@@ -1,14 +1,13 @@
 -- "It takes exactly the record sequences that some accepted Data lists as, under the bases given, places aside": what is
 -- taken is such a table, and every such table is taken. Assumes nothing.
 use mathlib.Core.Path.{_≡_, refl, sym, subst, ap, _∙_}
-use mathlib.Core.Bool.{Bool, true, false}
+use mathlib.Core.Bool.{true, false}
 use mathlib.Core.List.{List, [], _∷_}
 use Prim.Native.Nat.{ℕ, zero, suc, _+_, _-_, _*_, _/_, _^_, _≤_, _<_}
 use native.Mathlib.Decide.{decLt}
 use native.Mathlib.Omega.{arith}
 use lib.ListN.{length, getD, List·getD-eq-default}
-use Rattle.wire.specs.Choose.{pick}
-use Rattle.wire.specs.Got.{Got, got}
+use Rattle.wire.specs.Got.{got}
 use Rattle.wire.specs.Store.{shown}
 use Rattle.wire.specs.declared.times.Bases.{Bases}
 use Rattle.wire.proofs.Choose.{pick-yes}
@@ -21,8 +20,7 @@ use Rattle.listing.proofs.Loops.{length-recordsOf}
 use Rattle.forms.specs.Views.{showContents}
 use Rattle.forms.specs.Fits.{Bounded}
 use Rattle.forms.specs.Whole.{contentsBytes}
-use Rattle.taken.specs.Fields.{itemOf, strayBytes}
-use Rattle.taken.specs.Tests.{badPlace, badNowhere}
+use Rattle.taken.specs.Fields.{itemOf}
 use Rattle.taken.specs.Entries.{takenAt}
 use Rattle.taken.specs.Listings.{itemsFrom, itemsOf, nowhere, ItemView, showItem, showItems, misplaced, Proper}
 use Rattle.taken.proofs.Goods.{not-then}
@@ -31,7 +29,7 @@ use Rattle.taken.proofs.Listed.{taken-listed, taken-proper}
 use Rattle.taken.proofs.Shows.{shows-same}
 use Rattle.taken.proofs.Lying.{read-lies, taken-lies}
 use Rattle.taken.proofs.Laws.{ListsAs, lists-alike, taken-lists}
-use Rattle.taken.proofs.Moved.{Follows, placed, placed-is, Placed, Moved}
+use Rattle.taken.proofs.Moved.{placed-is, Placed}
 use Rattle.taken.proofs.Carried.{Carried, taken-carried}
 
 -- ---- items one by one

@@ -2,30 +2,26 @@
 use mathlib.Core.Path.{_≡_, refl, sym, subst, ap, _∙_}
 use mathlib.Core.Bool.{Bool, true, false}
 use mathlib.Core.List.{List, [], _∷_, _++_}
-use mathlib.Core.Option.{Option, none, some}
 use Prim.Native.Nat.{ℕ, zero, suc, _+_, _-_, _*_, _/_, _≤_, _<_}
 use native.Mathlib.Decide.{decLt}
 use native.Mathlib.Omega.{arith}
 use borrow.Author.Tests.{eqb-true}
 use lib.Dec.{ltb, eqb}
 use lib.ListN.{length, getD}
-use Rattle.wire.specs.Choose.{pick, bind}
-use Rattle.wire.specs.Got.{Got, got, bad, on}
+use Rattle.wire.specs.Choose.{pick}
+use Rattle.wire.specs.Got.{Got}
 use Rattle.wire.specs.declared.times.Bases.{Bases}
 use Rattle.wire.proofs.Choose.{pick-no}
 use Rattle.wire.proofs.Gives.{Gives, gives-got, gives-bad, gives-on, gives-pick}
 use Rattle.cell.specs.Fields.{live}
 use Rattle.cell.specs.declared.fields.Deletion.{Deletion}
-use Rattle.cell.specs.declared.fields.Span.{Span}
-use Rattle.row.specs.declared.rows.Row.{Row}
-use Rattle.marker.specs.declared.markers.Marker.{Marker}
-use Rattle.walk.specs.Items.{showsValue, partitionItem, rowItem, markerItem, valueItem, cellItem, endItem}
+use Rattle.walk.specs.Items.{showsValue, rowItem, markerItem, endItem}
 use Rattle.walk.specs.declared.items.Item.{Item}
-use Rattle.contents.specs.Contents.{Widths, Entry, staticEntry, rowEntry, markerEntry, Contents, openBehind, valuesListed, cellsListed, entryListed, entriesListed, partitionListed, listed}
+use Rattle.contents.specs.Contents.{Widths, openBehind, valuesListed, cellsListed, entryListed, entriesListed, partitionListed, listed}
 use Rattle.taken.specs.Fields.{itemOf, strayBytes, hasLocal}
-use Rattle.taken.specs.Records.{recordAt, kindAt}
+use Rattle.taken.specs.Records.{kindAt}
 use Rattle.taken.specs.Tests.{unlike, badPlace, badNowhere, badKey, badValue, badPartitionFlags, badValueFlags, badCellFlags, badCellPlace, badPartition, badRow, badStatic, badMarker, badClustering, badCell, badEnd}
-use Rattle.taken.specs.Entries.{valueOf, cellOf, rowOf, markerOf, partitionOf, takenValues, takenPrefix, isCell, takenCells, takenStatic, takenRow, takenMarker, takenEntry, takenEnd, takenEntriesIn, takenEntries, baseless, takenPartition, takenIn, takenAt}
+use Rattle.taken.specs.Entries.{rowOf, markerOf, takenValues, takenPrefix, isCell, takenCells, takenStatic, takenRow, takenMarker, takenEntry, takenEnd, takenEntriesIn, takenEntries, baseless, takenPartition, takenIn, takenAt}
 use Rattle.taken.specs.Listings.{itemsFrom, itemsOf, nowhere, placeless, allPlaceless, misplaced, Proper}
 use Rattle.taken.proofs.Goods.{not-first, not-second, not-else, not-then, yes-or-no, Good, record-gives}
 use Rattle.taken.proofs.Fitting.{static-row}

@@ -2,31 +2,28 @@
 -- aside, is taken. Assumes nothing.
 use mathlib.Core.Path.{_≡_, refl, sym, subst, ap, _∙_}
 use mathlib.Core.Bool.{Bool, true, false}
-use mathlib.Core.List.{List, [], _∷_}
-use mathlib.Core.Option.{Option, none, some}
-use Prim.Native.Nat.{ℕ, zero, suc, _+_, _-_, _*_, _≤_, _<_}
+use mathlib.Core.List.{List}
+use Prim.Native.Nat.{ℕ, _+_, _-_, _≤_}
 use native.Mathlib.Omega.{arith}
-use borrow.Author.Tests.{le-ltb, ltb-false}
+use borrow.Author.Tests.{le-ltb}
 use lib.Dec.{ltb, eqb}
-use lib.ListN.{length, getD}
+use lib.ListN.{length}
 use Rattle.wire.specs.Choose.{pick, bind}
 use Rattle.wire.specs.Got.{Got, got, bad, on}
 use Rattle.wire.specs.Store.{shown}
 use Rattle.wire.specs.declared.refusal.Fault.{Fault}
 use Rattle.wire.specs.declared.times.Bases.{Bases}
-use Rattle.wire.proofs.Gives.{Gives}
 use Rattle.wire.proofs.RoundTrip.{Reads, reads-got, reads-on, reads-no}
-use Rattle.cell.specs.declared.cells.Cell.{Cell}
 use Rattle.walk.specs.Items.{item}
 use Rattle.walk.specs.declared.items.Item.{Item}
 use Rattle.forms.specs.Views.{showCell}
 use Rattle.forms.proofs.Fields.{shown-none}
 use Rattle.taken.specs.Fields.{itemOf, strayBytes, hasTime, hasExpiry, hasLocal, hasMark, hasSecond, hasColumn, stray, strayFirst, strayLast, strayNumbers}
 use Rattle.taken.specs.Records.{rangesAt, recordAt}
-use Rattle.taken.specs.Tests.{unlike, badPlace, badNowhere, badKey, badWidth, badValue, badPartitionFlags, badRowFlags, badValueFlags, badCellFlags, badPartition, badRow, badStatic, badFirst, badMarker, badClustering, badCellPlace, badCell, badEnd}
+use Rattle.taken.specs.Tests.{unlike, badPlace, badNowhere, badKey, badWidth, badValue, badPartitionFlags, badValueFlags, badCellFlags, badPartition, badRow, badStatic, badFirst, badMarker, badClustering, badCellPlace, badCell, badEnd}
 use Rattle.taken.specs.Entries.{cellOf, timesOf, deletionOf, secondOf}
 use Rattle.taken.specs.Listings.{nowhere}
-use Rattle.taken.proofs.Goods.{never, not-first, not-second, not-else, not-then, yes-or-no, Ranged, Good, record-gives, place-length, place-some, nowhere-offset, nowhere-length}
+use Rattle.taken.proofs.Goods.{not-first, not-second, not-then, yes-or-no, Ranged, record-gives, place-length, place-some, nowhere-offset, nowhere-length}
 use Rattle.taken.proofs.Spelled.{ranges-back}
 use Rattle.taken.proofs.Sound.{not-either}
 
