@@ -1,16 +1,16 @@
 -- What was read is taken again from the records that list it, and shows the same. Assumes nothing.
 use mathlib.Core.Path.{_≡_, refl, sym, subst, ap, _∙_}
-use mathlib.Core.Bool.{Bool, true, false}
+use mathlib.Core.Bool.{true, false}
 use mathlib.Core.List.{List, [], _∷_, _++_}
 use mathlib.Core.Logic.{_⊎_, inl, inr}
-use mathlib.Core.Option.{Option, none, some}
+use mathlib.Core.Option.{Option}
 use Prim.Native.Nat.{ℕ, zero, suc, _+_, _-_, _^_, _≤_, _<_}
 use native.Mathlib.Omega.{arith}
 use borrow.Author.Tests.{le-ltb, eq-eqb, ne-eqb}
-use lib.Dec.{ltb, eqb}
-use lib.ListN.{length, getD, take}
-use Rattle.wire.specs.Choose.{pick, bind}
-use Rattle.wire.specs.Got.{Got, got, bad, on}
+use lib.Dec.{eqb}
+use lib.ListN.{length, getD}
+use Rattle.wire.specs.Choose.{bind}
+use Rattle.wire.specs.Got.{got}
 use Rattle.wire.specs.declared.times.Bases.{Bases}
 use Rattle.wire.proofs.RoundTrip.{Reads, reads-got, reads-on, reads-at, reads-yes, reads-no, reads-to}
 use Rattle.wire.proofs.Stands.{Stands}
@@ -27,23 +27,22 @@ use Rattle.row.specs.declared.rows.Row.{Row}
 use Rattle.row.proofs.Gives.{RestOk, RowOk}
 use Rattle.marker.specs.declared.markers.Deletions.{Deletions}
 use Rattle.marker.specs.declared.markers.Marker.{Marker}
-use Rattle.partition.proofs.Gives.{PartitionOk, partition-gives}
+use Rattle.partition.proofs.Gives.{partition-gives}
 use Rattle.walk.specs.Items.{partitionItem, rowItem, markerItem, endItem}
 use Rattle.walk.specs.declared.items.Item.{Item}
 use Rattle.contents.specs.Contents.{Widths, Entry, staticEntry, rowEntry, markerEntry, Contents, openBehind, contentsAt, valuesListed, cellsListed, entryListed, entriesListed, partitionListed, listed}
-use Rattle.contents.proofs.Gives.{CellsIn, RowIn, EntryIn, EntriesIn, ContentsIn, AllIn, row-placed, entry-moves, contents-give}
-use Rattle.listing.specs.Records.{recordOf, recordsOf}
-use Rattle.forms.specs.Views.{RowView, MarkerView, EntryView, staticView, rowView, markerView, PartitionView, showValue, showValues, showCells, showRow, showEntry, showEntries, showPartition, showContents}
+use Rattle.contents.proofs.Gives.{RowIn, EntryIn, EntriesIn, ContentsIn, AllIn, row-placed, entry-moves, contents-give}
+use Rattle.listing.specs.Records.{recordsOf}
+use Rattle.forms.specs.Views.{RowView, MarkerView, EntryView, staticView, rowView, markerView, PartitionView, showValue, showValues, showRow, showEntry, showEntries, showPartition, showContents}
 use Rattle.forms.specs.Fits.{Bounded, EntryFits, openView, EntriesFit, PartitionFits, AllFit}
 use Rattle.forms.proofs.Fits.{contents-fit}
 use Rattle.forms.proofs.Whole.{open-shown}
-use Rattle.taken.specs.Records.{recordAt, kindAt}
-use Rattle.taken.specs.Tests.{badPartition, badRow, badStatic, badMarker, badEnd}
-use Rattle.taken.specs.Entries.{valueOf, deletionOf, timesOf, deletionsOf, rowOf, markerOf, partitionOf, takenStatic, takenRow, takenMarker, takenEntry, takenEnd, takenEntriesIn, takenEntries, baseless, takenPartition, takenIn, takenAt}
+use Rattle.taken.specs.Records.{kindAt}
+use Rattle.taken.specs.Entries.{rowOf, takenStatic, takenRow, takenMarker, takenEntry, takenEnd, takenEntriesIn, takenEntries, baseless, takenPartition, takenIn, takenAt}
 use Rattle.taken.proofs.Spelled.{kind-back, record-back}
 use Rattle.taken.proofs.Heads.{Flagged, plain-sound, static-sound, row-times, row-deletion, marker-sound, marker-deletions, marker-column, end-sound, partition-sound, partition-deletion, partition-key}
 use Rattle.taken.proofs.Flagging.{FlaggedEntry, FlaggedEntries, FlaggedAll, contents-flagged}
-use Rattle.taken.proofs.Back.{Wide, stands-none, stands-first, stands-rest, Two, stands-two, values-back, prefix-back, cells-back}
+use Rattle.taken.proofs.Back.{Wide, stands-none, stands-first, stands-rest, stands-two, values-back, prefix-back, cells-back}
 
 -- ---- the first byte of an entry's records
 pub row-kind : (kind : ℕ) (r : Row) → rowItem kind r .kind ≡ kind
@@ -59,21 +58,21 @@ unfolding endItem
 end-kind p = refl
 
 -- ---- equal views
-row-view : (x y : RowView) → x .times ≡ y .times → x .deletion ≡ y .deletion → x .cells ≡ y .cells → x ≡ y
+pub row-view : (x y : RowView) → x .times ≡ y .times → x .deletion ≡ y .deletion → x .cells ≡ y .cells → x ≡ y
 row-view x y e f g = rw3 (x .times) (y .times) e (x .deletion) (y .deletion) f (x .cells) (y .cells) g
   where
     rw3 : (a b : Times) → a ≡ b → (c d : Deletion) → c ≡ d → (u v : List _) → u ≡ v → _≡_ {A = RowView} (record { times = a; deletion = c; cells = u }) (record { times = b; deletion = d; cells = v })
     rw3 a b e c d f u v g = rw (e, f, g) refl
 
-marker-view : (k l : ℕ) → k ≡ l → (u v : List (List ℕ)) → u ≡ v → (c d : Deletions) → c ≡ d
+pub marker-view : (k l : ℕ) → k ≡ l → (u v : List (List ℕ)) → u ≡ v → (c d : Deletions) → c ≡ d
     → _≡_ {A = MarkerView} (record { kind = k; values = u; deletions = c }) (record { kind = l; values = v; deletions = d })
 marker-view k l e u v f c d g = rw (e, f, g) refl
 
-partition-view : (k l : List ℕ) → k ≡ l → (c d : Deletion) → c ≡ d → (u v : List EntryView) → u ≡ v
+pub partition-view : (k l : List ℕ) → k ≡ l → (c d : Deletion) → c ≡ d → (u v : List EntryView) → u ≡ v
     → _≡_ {A = PartitionView} (record { key = k; deletion = c; entries = u }) (record { key = l; deletion = d; entries = v })
 partition-view k l e c d f u v g = rw (e, f, g) refl
 
-pair : (x y : EntryView) → x ≡ y → (u v : List EntryView) → u ≡ v → _≡_ {A = List EntryView} (x ∷ u) (y ∷ v)
+pub pair : (x y : EntryView) → x ≡ y → (u v : List EntryView) → u ≡ v → _≡_ {A = List EntryView} (x ∷ u) (y ∷ v)
 pair x y e u v f = rw (e, f) refl
 
 -- columns of all roles have a width

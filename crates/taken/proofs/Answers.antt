@@ -1,14 +1,14 @@
 -- What the writer answers: Data that is accepted, and lists as the records given, places aside. Assumes nothing.
-use mathlib.Core.Path.{_≡_, refl, sym, subst, ap, _∙_}
+use mathlib.Core.Path.{_≡_, refl, ap, _∙_}
 use mathlib.Core.Bool.{Bool, true, false}
 use mathlib.Core.List.{List}
-use Prim.Native.Nat.{ℕ, _^_, _≤_, _<_}
+use Prim.Native.Nat.{ℕ, _≤_, _<_}
 use native.Mathlib.Omega.{arith}
 use borrow.Author.Tests.{le-ltb, ltb-false}
 use lib.Dec.{ltb}
 use lib.ListN.{length, getD}
 use Rattle.wire.specs.Choose.{pick}
-use Rattle.wire.specs.Got.{Got, got}
+use Rattle.wire.specs.Got.{got}
 use Rattle.wire.specs.Refusals.{Outcome, taken, refused}
 use Rattle.wire.specs.declared.refusal.Fault.the-variants.{OverLimit, OutOfRange, NoRoom}
 use Rattle.wire.specs.declared.refusal.Slice.the-variants.{Schema, Records, Bytes, Output, Bases as bases-slice}
@@ -16,7 +16,7 @@ use Rattle.wire.specs.declared.times.Bases.{Bases}
 use Rattle.schema.specs.Records.{schemaOf, anywhere}
 use Rattle.schema.specs.declared.records.Counts.{Counts}
 use Rattle.walk.specs.Tables.{badBases, after}
-use Rattle.contents.specs.Contents.{Widths, widthsOf, Contents, contentsAt, listed}
+use Rattle.contents.specs.Contents.{widthsOf, Contents, contentsAt, listed}
 use Rattle.listing.specs.Records.{recordsOf}
 use Rattle.forms.specs.Whole.{contentsBytes}
 use Rattle.taken.specs.Writes.{deskAt, writtenAs, fitting, writeOf}

@@ -1,18 +1,16 @@
 -- The records that list what was read are taken again, in turn. Assumes nothing.
-use mathlib.Core.Path.{_≡_, refl, sym, subst, ap, _∙_}
+use mathlib.Core.Path.{_≡_, refl, subst, ap, _∙_}
 use mathlib.Core.Bool.{Bool, true, false}
 use mathlib.Core.List.{List, [], _∷_, _++_}
-use mathlib.Core.Logic.{_⊎_, inl, inr}
 use mathlib.Core.Option.{Option, none, some}
 use Prim.Native.Nat.{ℕ, zero, suc, _+_, _-_, _^_, _≤_, _<_}
 use native.Mathlib.Omega.{arith}
-use borrow.Author.Tests.{le-ltb, eq-eqb, ne-eqb}
-use lib.Dec.{ltb, eqb}
+use borrow.Author.Tests.{eq-eqb, ne-eqb}
+use lib.Dec.{eqb}
 use lib.ListN.{length, getD, take}
 use Rattle.wire.specs.Choose.{pick}
-use Rattle.wire.specs.Got.{Got, got, bad, on}
 use Rattle.wire.specs.declared.times.Bases.{Bases}
-use Rattle.wire.proofs.RoundTrip.{Reads, reads-got, reads-on, reads-at, reads-yes, reads-no, reads-to}
+use Rattle.wire.proofs.RoundTrip.{Reads, reads-got, reads-at, reads-yes, reads-no, reads-to}
 use Rattle.wire.proofs.Stands.{Stands, stands-left, stands-right}
 use Rattle.cell.specs.declared.fields.Span.{Span}
 use Rattle.cell.specs.declared.cells.Times.{Times}
@@ -27,8 +25,8 @@ use Rattle.listing.specs.Records.{recordOf, recordsOf}
 use Rattle.listing.proofs.Loops.{length-recordOf}
 use Rattle.taken.specs.Records.{recordAt}
 use Rattle.taken.specs.Tests.{badClustering, badCell}
-use Rattle.taken.specs.Entries.{valueOf, cellOf, takenValues, takenPrefix, isCell, takenCells}
-use Rattle.taken.proofs.Spelled.{Sized, kind-back, column-back, record-back, Sound}
+use Rattle.taken.specs.Entries.{takenValues, takenPrefix, isCell, takenCells}
+use Rattle.taken.proofs.Spelled.{kind-back, column-back, record-back}
 use Rattle.taken.proofs.Sound.{value-sound, value-same, cell-sound, cell-same, value-kind, cell-kind, cell-column}
 
 -- columns that have a width

@@ -1,25 +1,21 @@
 -- What is taken can be written: it fits the bases and the columns, with the bytes that it shows. Assumes nothing.
-use mathlib.Core.Path.{_≡_, refl, sym, subst, ap, _∙_}
+use mathlib.Core.Path.{_≡_, refl, subst, ap, _∙_}
 use mathlib.Core.Bool.{Bool, true, false}
 use mathlib.Core.List.{List, [], _∷_}
-use mathlib.Core.Option.{Option, none, some}
-use Prim.Native.Nat.{ℕ, zero, suc, _+_, _-_, _/_, _%_, _^_, _≤_, _<_}
+use mathlib.Core.Option.{none}
+use Prim.Native.Nat.{ℕ, zero, suc, _+_, _-_, _%_, _^_, _≤_, _<_}
 use native.Mathlib.Omega.{arith}
-use borrow.Author.Tests.{ltb-false, eqb-true, eqb-false, eq-eqb, ne-eqb}
+use borrow.Author.Tests.{ltb-false, eqb-false, eq-eqb}
 use lib.Dec.{ltb, eqb}
 use lib.ListN.{length, getD, take}
 use Rattle.wire.specs.Choose.{pick}
-use Rattle.wire.specs.Got.{Got, got, bad, on}
+use Rattle.wire.specs.Got.{Got}
 use Rattle.wire.specs.Store.{shown}
 use Rattle.wire.specs.declared.times.Bases.{Bases}
 use Rattle.wire.proofs.Choose.{pick-ind}
 use Rattle.wire.proofs.Gives.{Gives, gives-got, gives-bad, gives-on, gives-pick}
-use Rattle.cell.specs.Fields.{span, deletion, live}
-use Rattle.cell.specs.Cells.{cell}
+use Rattle.cell.specs.Fields.{deletion, live}
 use Rattle.cell.specs.declared.fields.Deletion.{Deletion}
-use Rattle.cell.specs.declared.fields.Span.{Span}
-use Rattle.cell.specs.declared.cells.Times.{Times}
-use Rattle.cell.specs.declared.cells.Cell.{Cell}
 use Rattle.cell.proofs.Ranges.{TimestampIn, LocalIn, DeletionIn, deletion-none}
 use Rattle.cell.proofs.Gives.{TimesIn}
 use Rattle.row.specs.Bodies.{times}
@@ -29,15 +25,15 @@ use Rattle.marker.specs.Markers.{sameDeletion}
 use Rattle.marker.proofs.Gives.{DeletionsIn}
 use Rattle.partition.proofs.Gives.{DeletedIn}
 use Rattle.walk.specs.declared.items.Item.{Item}
-use Rattle.contents.specs.Contents.{Widths, Entry, staticEntry, rowEntry, markerEntry, Contents, openBehind}
-use Rattle.forms.specs.Views.{CellView, EntryView, showValue, showValues, showCell, showCells, showEntry, showEntries, showPartition, showContents}
-use Rattle.forms.specs.Fits.{ValueFits, ValuesFit, CellFits, CellsFit, RowFits, MarkerFits, EntryFits, openView, EntriesFit, PartitionFits, AllFit}
+use Rattle.contents.specs.Contents.{Widths, Entry, staticEntry, rowEntry, markerEntry, openBehind}
+use Rattle.forms.specs.Views.{showValue, showValues, showCell, showCells, showEntry, showEntries, showPartition, showContents}
+use Rattle.forms.specs.Fits.{ValueFits, ValuesFit, CellFits, CellsFit, EntryFits, openView, EntriesFit, PartitionFits, AllFit}
 use Rattle.forms.proofs.Fields.{shown-none}
 use Rattle.taken.specs.Fields.{hasTime, hasExpiry, hasLocal, hasMark, hasSecond}
-use Rattle.taken.specs.Records.{recordAt, kindAt}
-use Rattle.taken.specs.Tests.{unlike, badPlace, badNowhere, badKey, badWidth, badValue, badPartitionFlags, badRowFlags, badValueFlags, badCellFlags, badPartition, badRow, badStatic, badFirst, badMarker, badClustering, badCellPlace, badCell, badEnd}
-use Rattle.taken.specs.Entries.{valueOf, deletionOf, secondOf, timesOf, cellOf, rowOf, deletionsOf, markerOf, partitionOf, takenValues, takenPrefix, isCell, takenCells, takenStatic, takenRow, takenMarker, takenEntry, takenEnd, takenEntriesIn, takenEntries, baseless, takenPartition, takenIn, takenAt}
-use Rattle.taken.proofs.Goods.{never, not-first, not-second, not-else, not-then, alike, yes-or-no, Ranged, Good, record-gives, place-length, place-short, nowhere-offset, nowhere-length, width-fills}
+use Rattle.taken.specs.Records.{kindAt}
+use Rattle.taken.specs.Tests.{unlike, badPlace, badNowhere, badKey, badValue, badPartitionFlags, badValueFlags, badCellFlags, badPartition, badRow, badStatic, badFirst, badMarker, badClustering, badCellPlace, badCell, badEnd}
+use Rattle.taken.specs.Entries.{valueOf, deletionOf, secondOf, timesOf, cellOf, deletionsOf, takenValues, takenPrefix, isCell, takenCells, takenStatic, takenRow, takenMarker, takenEntry, takenEnd, takenEntriesIn, takenEntries, baseless, takenPartition, takenIn, takenAt}
+use Rattle.taken.proofs.Goods.{never, not-first, not-second, not-else, not-then, alike, yes-or-no, Ranged, record-gives, place-length, place-short, nowhere-offset, nowhere-length, width-fills}
 
 any : {A : Type 0} (x : Got A) → Gives x (λ a n. Unit)
 any x = record { given = λ a n e. tt }

@@ -1,28 +1,26 @@
 -- The flags of a row that was read tell its times and its deletion. Assumes nothing.
-use mathlib.Core.Path.{_≡_, refl, sym, _∙_}
-use mathlib.Core.Bool.{Bool, true, false}
+use mathlib.Core.Path.{_≡_, sym, _∙_}
+use mathlib.Core.Bool.{false}
 use mathlib.Core.List.{List, [], _∷_}
-use Prim.Native.Nat.{ℕ, zero, suc, _+_, _-_, _*_, _/_, _%_}
+use Prim.Native.Nat.{ℕ, zero, suc, _-_, _*_, _/_, _%_}
 use native.Mathlib.Omega.{arith}
 use borrow.Author.Tests.{eqb-true, eqb-false}
 use lib.Dec.{ltb, eqb}
 use lib.ListN.{length}
-use Rattle.wire.specs.Choose.{pick}
-use Rattle.wire.specs.Got.{Got, got, bad, on}
+use Rattle.wire.specs.Got.{Got}
 use Rattle.wire.specs.declared.times.Bases.{Bases}
 use Rattle.wire.proofs.Gives.{Gives, gives-got, gives-bad, gives-on, gives-pick}
-use Rattle.cell.specs.Fields.{live, byteAt, inAt, deletionAt}
+use Rattle.cell.specs.Fields.{live}
 use Rattle.cell.specs.declared.fields.Deletion.{Deletion}
 use Rattle.cell.specs.declared.cells.Times.{Times}
 use Rattle.cell.proofs.Ranges.{deletion-gives}
-use Rattle.row.specs.Flags.{badRowFlags, rowFlagsAt}
-use Rattle.row.specs.Bodies.{expiryAt, livenessAt, rowDeletionAt, presentAt, contentAt, bodyAt}
+use Rattle.row.specs.Flags.{badRowFlags}
+use Rattle.row.specs.Bodies.{expiryAt, livenessAt, rowDeletionAt, contentAt, bodyAt}
 use Rattle.row.specs.Rows.{restAt, rowAt}
 use Rattle.row.specs.declared.bodies.Body.{Body}
-use Rattle.row.specs.declared.rows.Row.{Row}
 use Rattle.row.proofs.Gives.{flags-give}
 use Rattle.contents.specs.Contents.{Widths, Entry, staticEntry, rowEntry, markerEntry, Contents, openBehind, rowEntryAt, markerEntryAt, entryAt, closedAt, entriesIn, entriesAt, wholeAt, partitionsIn, contentsAt}
-use Rattle.taken.proofs.Goods.{never, not-first, not-second}
+use Rattle.taken.proofs.Goods.{not-first, not-second}
 use Rattle.taken.proofs.Heads.{Flagged}
 
 any : {A : Type 0} (x : Got A) → Gives x (λ a n. Unit)

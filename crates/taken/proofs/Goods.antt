@@ -1,22 +1,21 @@
 -- What is known of a record that is taken, and of the key or value that it shows. Assumes nothing.
-use mathlib.Core.Path.{_≡_, refl, sym, subst, _∙_}
+use mathlib.Core.Path.{_≡_, refl, sym, subst}
 use mathlib.Core.Bool.{Bool, true, false}
-use mathlib.Core.List.{List, []}
-use Prim.Native.Nat.{ℕ, _+_, _-_, _%_, _≤_, _<_}
+use mathlib.Core.List.{List}
+use Prim.Native.Nat.{ℕ, _+_, _-_, _≤_}
 use native.Mathlib.Omega.{arith}
-use borrow.Author.Tests.{ltb-false, eqb-true, eqb-false, eq-eqb}
+use borrow.Author.Tests.{ltb-false, eqb-true, eqb-false}
 use lib.Dec.{ltb, eqb}
-use lib.ListN.{length, take, drop, length-take, length-drop}
-use Rattle.wire.specs.Choose.{pick, bind}
-use Rattle.wire.specs.Got.{Got, got, bad, on}
+use lib.ListN.{length, length-take, length-drop}
+use Rattle.wire.specs.Choose.{pick}
 use Rattle.wire.specs.Store.{part, shown}
 use Rattle.wire.specs.declared.times.Bases.{Bases}
-use Rattle.wire.proofs.Gives.{Gives, gives-got, gives-bad, gives-on, gives-pick, gives-bind}
+use Rattle.wire.proofs.Gives.{Gives, gives-got, gives-bad, gives-pick, gives-bind}
 use Rattle.cell.proofs.Ranges.{In, TimestampIn, LocalIn, TTLIn}
 use Rattle.walk.specs.declared.items.Item.{Item}
 use Rattle.taken.specs.Fields.{itemOf, strayBytes, hasTime, hasExpiry, hasLocal, hasMark, hasSecond, strayNumbers}
 use Rattle.taken.specs.Records.{outside, lastRangesAt, rangesAt, recordAt}
-use Rattle.taken.specs.Tests.{unlike, badPlace, badNowhere, badWidth, badValue}
+use Rattle.taken.specs.Tests.{unlike, badPlace, badNowhere, badWidth}
 
 -- ---- tests that a record passes
 pub never : {C : Type 0} → true ≡ false → C

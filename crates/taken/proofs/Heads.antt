@@ -2,20 +2,19 @@
 -- nothing.
 use mathlib.Core.Path.{_≡_, refl, sym, subst, ap, _∙_}
 use mathlib.Core.Bool.{Bool, true, false}
-use mathlib.Core.List.{List, []}
+use mathlib.Core.List.{List}
 use Prim.Native.Nat.{ℕ, _+_, _-_, _*_, _/_, _%_, _^_, _≤_, _<_}
 use native.Mathlib.Omega.{arith}
-use borrow.Author.Tests.{le-ltb, lt-ltb, ltb-false, eq-eqb, ne-eqb, eqb-true, eqb-false}
+use borrow.Author.Tests.{le-ltb, ltb-false, eq-eqb, ne-eqb, eqb-true, eqb-false}
 use lib.Dec.{ltb, eqb}
 use lib.ListN.{length}
 use Rattle.wire.specs.Choose.{pick, bind}
 use Rattle.wire.specs.declared.times.Bases.{Bases}
 use Rattle.wire.proofs.Choose.{pick-yes, pick-no, pick-ind}
-use Rattle.cell.specs.Fields.{span, deletion, live}
+use Rattle.cell.specs.Fields.{deletion}
 use Rattle.cell.specs.declared.fields.Deletion.{Deletion}
-use Rattle.cell.specs.declared.fields.Span.{Span}
 use Rattle.cell.specs.declared.cells.Times.{Times}
-use Rattle.cell.proofs.Ranges.{In, TimestampIn, LocalIn, TTLIn, DeletionIn}
+use Rattle.cell.proofs.Ranges.{TimestampIn, LocalIn, DeletionIn}
 use Rattle.cell.proofs.Gives.{TimesIn}
 use Rattle.row.specs.Bodies.{times}
 use Rattle.row.specs.Flags.{mayStand}
@@ -30,7 +29,7 @@ use Rattle.partition.proofs.Gives.{DeletedIn}
 use Rattle.walk.specs.Items.{item, zeroed, markOf, timeOf, partitionFlags, partitionItem, rowItem, markerItem, endItem}
 use Rattle.walk.specs.declared.items.Item.{Item}
 use Rattle.taken.specs.Fields.{hasTime, hasExpiry, hasLocal, hasMark, hasSecond, hasColumn}
-use Rattle.taken.specs.Tests.{unlike, badPlace, badNowhere, badKey, badPartitionFlags, badRowFlags, badPartition, badRow, badStatic, badFirst, badMarker, badEnd}
+use Rattle.taken.specs.Tests.{badKey, badPartitionFlags, badRowFlags, badPartition, badRow, badStatic, badFirst, badMarker, badEnd}
 use Rattle.taken.specs.Entries.{valueOf, deletionOf, secondOf, timesOf, deletionsOf, baseless}
 use Rattle.taken.proofs.Goods.{never, not-first, yes-or-no, Ranged}
 use Rattle.taken.proofs.Spelled.{Sized, Sound}

@@ -1,32 +1,24 @@
 -- What a record that is taken says is listed as that record again, but for the place of a whole item. Assumes nothing.
-use mathlib.Core.Path.{_≡_, refl, sym, subst, ap, _∙_}
+use mathlib.Core.Path.{_≡_, refl, sym, ap, _∙_}
 use mathlib.Core.Bool.{Bool, true, false}
-use mathlib.Core.List.{List, [], _∷_, _++_}
-use Prim.Native.Nat.{ℕ, _+_, _-_, _*_, _/_, _%_, _≤_, _<_}
+use mathlib.Core.List.{List}
+use Prim.Native.Nat.{ℕ, _-_, _*_, _/_, _%_, _≤_, _<_}
 use native.Mathlib.Omega.{arith}
 use borrow.Author.Tests.{lt-ltb, ltb-true, ltb-false, eq-eqb, ne-eqb, eqb-true, eqb-false}
 use lib.Dec.{ltb, eqb}
 use lib.ListN.{length}
 use Rattle.wire.specs.Choose.{pick, bind}
-use Rattle.wire.specs.declared.times.Bases.{Bases}
 use Rattle.wire.proofs.Choose.{pick-yes, pick-no}
-use Rattle.cell.specs.Fields.{span, deletion, live}
-use Rattle.cell.specs.Cells.{cell}
 use Rattle.cell.specs.declared.fields.Deletion.{Deletion}
 use Rattle.cell.specs.declared.fields.Span.{Span}
-use Rattle.cell.specs.declared.cells.Times.{Times}
-use Rattle.cell.specs.declared.cells.Cell.{Cell}
-use Rattle.row.specs.Bodies.{times}
-use Rattle.marker.specs.Kinds.{isBoundary}
 use Rattle.walk.specs.Items.{item, zeroed, markOf, timeOf, partitionFlags, cellFlags, partitionItem, rowItem, markerItem, valueItem, cellItem, endItem, showsValue}
 use Rattle.walk.specs.declared.items.Item.{Item}
 use Rattle.taken.specs.Fields.{hasTime, hasExpiry, hasLocal, hasMark, hasSecond, hasColumn, stray, strayFirst, strayLast, strayNumbers}
-use Rattle.taken.specs.Tests.{unlike, badPlace, badNowhere, badKey, badValue, badPartitionFlags, badRowFlags, badValueFlags, badCellFlags, badPartition, badRow, badStatic, badMarker, badClustering, badCellPlace, badCell, badEnd}
+use Rattle.taken.specs.Tests.{unlike, badPlace, badNowhere, badKey, badValue, badPartitionFlags, badRowFlags, badValueFlags, badCellFlags, badPartition, badRow, badMarker, badClustering, badCellPlace, badCell, badEnd}
 use Rattle.taken.specs.Entries.{valueOf, deletionOf, secondOf, timesOf, cellOf, rowOf, markerOf, partitionOf}
 use Rattle.taken.specs.Listings.{nowhere, placeless}
 use Rattle.taken.proofs.Goods.{never, not-first, not-second, not-else, not-then, alike, yes-or-no, place-some, nowhere-offset, nowhere-length}
 use Rattle.taken.proofs.Sound.{Unused}
-use Rattle.taken.proofs.Heads.{mark-some, mark-none, time-some, time-none}
 
 -- ---- numbers that are not used
 stray-none : (used : Bool) (none v : ℕ) → stray used none v ≡ false → used ≡ false → v ≡ none

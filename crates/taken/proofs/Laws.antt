@@ -1,26 +1,24 @@
 -- The writer against the listing. What is written of a record table is accepted again and lists as that table, places aside; what an accepted
 -- Data lists is taken, and gives the writer's form of what that Data shows. Assumes nothing.
 use mathlib.Core.Path.{_≡_, refl, sym, subst, ap, _∙_}
-use mathlib.Core.List.{List, []}
-use Prim.Native.Nat.{ℕ, _^_, _≤_, _<_}
+use mathlib.Core.List.{List}
+use Prim.Native.Nat.{ℕ, _^_, _<_}
 use native.Mathlib.Omega.{arith}
 use lib.ListN.{length, getD}
-use Rattle.wire.specs.Choose.{pick}
 use Rattle.wire.specs.Got.{Got, got, bad, on, within}
-use Rattle.wire.specs.Refusals.{Outcome, taken, refused}
+use Rattle.wire.specs.Refusals.{taken}
 use Rattle.wire.specs.declared.times.Bases.{Bases}
 use Rattle.wire.specs.declared.refusal.Slice.the-variants.{Records}
 use Rattle.wire.proofs.RoundTrip.{Reads}
-use Rattle.walk.specs.declared.items.Item.{Item}
 use Rattle.contents.specs.Contents.{Widths, Contents, contentsAt, listed}
 use Rattle.listing.specs.Records.{recordsOf}
 use Rattle.forms.specs.Views.{showContents}
-use Rattle.forms.specs.Fits.{Bounded, AllFit}
+use Rattle.forms.specs.Fits.{Bounded}
 use Rattle.forms.specs.Whole.{contentsBytes, formOf}
 use Rattle.forms.proofs.Laws.{rereads}
 use Rattle.taken.specs.Entries.{takenAt}
 use Rattle.taken.specs.Writes.{writtenAs}
-use Rattle.taken.specs.Listings.{itemsOf, allPlaceless, ItemView, showItems}
+use Rattle.taken.specs.Listings.{itemsOf, ItemView, showItems}
 use Rattle.taken.proofs.Fitting.{taken-fits}
 use Rattle.taken.proofs.Again.{AllWide, records-back}
 use Rattle.taken.proofs.Listed.{taken-listed}

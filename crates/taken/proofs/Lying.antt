@@ -1,15 +1,14 @@
 -- Keys and values of what is read, and of what is taken, lie in their bytes; rows' flags tell their times and deletions. Assumes nothing.
-use mathlib.Core.Path.{_≡_, refl, sym, ap, _∙_}
-use mathlib.Core.Bool.{Bool, true, false}
+use mathlib.Core.Path.{_≡_, ap, _∙_}
+use mathlib.Core.Bool.{true, false}
 use mathlib.Core.List.{List, [], _∷_}
 use mathlib.Core.Option.{Option, none, some}
-use Prim.Native.Nat.{ℕ, zero, suc, _+_, _-_, _*_, _/_, _%_, _≤_, _<_}
+use Prim.Native.Nat.{ℕ, zero, suc, _+_, _-_, _*_, _/_, _%_}
 use native.Mathlib.Omega.{arith}
 use borrow.Author.Tests.{eqb-true, eqb-false}
 use lib.Dec.{ltb, eqb}
 use lib.ListN.{length, getD, take}
-use Rattle.wire.specs.Choose.{pick}
-use Rattle.wire.specs.Got.{Got, got, bad, on}
+use Rattle.wire.specs.Got.{Got, got}
 use Rattle.wire.specs.declared.times.Bases.{Bases}
 use Rattle.wire.proofs.Choose.{pick-ind}
 use Rattle.wire.proofs.Gives.{Gives, gives-got, gives-bad, gives-on, gives-pick}
@@ -21,12 +20,12 @@ use Rattle.cell.specs.declared.cells.Cell.{Cell}
 use Rattle.clustering.proofs.Gives.{ValuesIn}
 use Rattle.walk.specs.declared.items.Item.{Item}
 use Rattle.contents.specs.Contents.{Widths, Entry, staticEntry, rowEntry, markerEntry, Contents, openBehind, contentsAt}
-use Rattle.contents.proofs.Gives.{CellsIn, EntryIn, EntriesIn, ContentsIn, AllIn, partition-moves, contents-give}
+use Rattle.contents.proofs.Gives.{CellsIn, EntryIn, EntriesIn, AllIn, partition-moves, contents-give}
 use Rattle.taken.specs.Fields.{hasTime, hasExpiry, hasLocal}
-use Rattle.taken.specs.Records.{recordAt, kindAt}
-use Rattle.taken.specs.Tests.{unlike, badPlace, badNowhere, badKey, badValue, badPartitionFlags, badValueFlags, badCellFlags, badPartition, badRow, badStatic, badMarker, badClustering, badCellPlace, badCell, badEnd}
+use Rattle.taken.specs.Records.{kindAt}
+use Rattle.taken.specs.Tests.{unlike, badPlace, badNowhere, badKey, badValue, badPartitionFlags, badValueFlags, badCellFlags, badPartition, badRow, badStatic, badMarker, badClustering, badCellPlace, badCell}
 use Rattle.taken.specs.Entries.{valueOf, deletionOf, timesOf, cellOf, rowOf, takenValues, takenPrefix, isCell, takenCells, takenStatic, takenRow, takenMarker, takenEntry, takenEnd, takenEntriesIn, takenEntries, baseless, takenPartition, takenIn, takenAt}
-use Rattle.taken.proofs.Goods.{not-first, not-second, not-else, not-then, yes-or-no, Good, record-gives, place-short, nowhere-offset, nowhere-length}
+use Rattle.taken.proofs.Goods.{not-first, not-second, not-else, not-then, yes-or-no, record-gives, place-short, nowhere-offset, nowhere-length}
 use Rattle.taken.proofs.Fitting.{static-row}
 use Rattle.taken.proofs.Heads.{Flagged}
 use Rattle.taken.proofs.Flagging.{FlaggedEntry, FlaggedEntries, FlaggedAll, contents-flagged}

@@ -1,30 +1,30 @@
 -- The columns of a schema that is not refused: not too many, and each has a width. Assumes nothing.
-use mathlib.Core.Path.{_≡_, refl, sym, subst, ap, _∙_}
+use mathlib.Core.Path.{_≡_, refl, sym, subst, _∙_}
 use mathlib.Core.Bool.{Bool, true, false}
 use mathlib.Core.List.{List, []}
 use Prim.Native.Nat.{ℕ, zero, suc, _+_, _-_, _*_, _/_, _≤_, _<_}
 use native.Mathlib.Decide.{decLt}
 use native.Mathlib.Omega.{arith}
-use borrow.Author.Tests.{ltb-false, eqb-true, leb-true}
+use borrow.Author.Tests.{eqb-true, leb-true}
 use lib.Dec.{T, ltb, leb, eqb}
 use lib.ListN.{length, getD}
 use Rattle.wire.specs.Choose.{pick, bind}
-use Rattle.wire.specs.Got.{Got, got, bad, on, within}
-use Rattle.wire.specs.Refusals.{Outcome, taken, refused}
+use Rattle.wire.specs.Got.{Got, got, bad, within}
+use Rattle.wire.specs.Refusals.{taken, refused}
 use Rattle.wire.specs.declared.refusal.Fault.{Fault}
-use Rattle.wire.specs.declared.refusal.Fault.the-variants.{OverLimit, OutOfRange}
+use Rattle.wire.specs.declared.refusal.Fault.the-variants.{OverLimit}
 use Rattle.wire.specs.declared.refusal.Slice.the-variants.{Schema}
 use Rattle.wire.proofs.Choose.{pick-no}
 use Rattle.wire.proofs.Finite.{below-at}
 use Rattle.wire.proofs.Gives.{Gives, gives-got, gives-bad, gives-on, gives-pick}
-use Rattle.typetable.specs.Table.{table, noLine, nth, lineOf, isLine, reversedLine}
+use Rattle.typetable.specs.Table.{table, noLine, nth, lineOf, isLine}
 use Rattle.typetable.proofs.Rows.{row-outside, line-range}
-use Rattle.schema.specs.Records.{roleAt, lineAt, markAt, widthAt, isLineOf, isKindOf, given, inTurn, withOne, recordAt, recordsAt, none, schemaAt, schemaOf, anywhere}
+use Rattle.schema.specs.Records.{roleAt, lineAt, markAt, widthAt, isLineOf, isKindOf, given, inTurn, recordAt, recordsAt, none, schemaAt, schemaOf, anywhere}
 use Rattle.schema.specs.declared.records.Counts.{Counts}
 use Rattle.clustering.specs.Prefixes.{widthsAt}
 use Rattle.walk.specs.Tables.{Table, badBases, tableAt}
 use Rattle.walk.proofs.Schemas.{table-taken}
-use Rattle.contents.specs.Contents.{Widths, widthsOf}
+use Rattle.contents.specs.Contents.{widthsOf}
 use Rattle.contents.proofs.Values.{widths-length}
 use Rattle.forms.specs.Fits.{Bounded}
 use Rattle.taken.specs.Entries.{baseless}

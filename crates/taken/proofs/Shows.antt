@@ -1,30 +1,26 @@
 -- The listing of contents shows what the contents show: equal views list alike, places aside. Assumes nothing.
-use mathlib.Core.Path.{_≡_, refl, sym, subst, ap, _∙_}
+use mathlib.Core.Path.{_≡_, refl, sym, ap, _∙_}
 use mathlib.Core.Bool.{Bool, true, false}
 use mathlib.Core.List.{List, [], _∷_, _++_}
 use mathlib.Core.Option.{Option, none, some}
-use Prim.Native.Nat.{ℕ, zero, suc, _+_, _-_, _*_, _/_, _%_, _≤_, _<_}
+use Prim.Native.Nat.{ℕ, _+_, _-_, _*_, _/_, _%_, _≤_, _<_}
 use native.Mathlib.Omega.{arith}
-use borrow.Author.Tests.{le-ltb, eq-eqb, ne-eqb}
-use lib.Dec.{ltb, eqb}
+use borrow.Author.Tests.{le-ltb}
+use lib.Dec.{eqb}
 use lib.ListN.{length}
 use Rattle.wire.specs.Choose.{pick, bind}
-use Rattle.wire.specs.Store.{shown}
-use Rattle.wire.proofs.Choose.{pick-yes, pick-no}
-use Rattle.cell.specs.declared.fields.Deletion.{Deletion}
+use Rattle.wire.proofs.Choose.{pick-no}
 use Rattle.cell.specs.declared.fields.Span.{Span}
-use Rattle.cell.specs.declared.cells.Times.{Times}
 use Rattle.cell.specs.declared.cells.Cell.{Cell}
 use Rattle.row.specs.declared.rows.Row.{Row}
 use Rattle.marker.specs.declared.markers.Marker.{Marker}
-use Rattle.partition.specs.declared.partitions.Partition.{Partition}
 use Rattle.walk.specs.Items.{item, zeroed, markOf, timeOf, partitionFlags, cellFlags, partitionItem, rowItem, markerItem, valueItem, cellItem, endItem, showsValue, valueOf}
 use Rattle.walk.specs.declared.items.Item.{Item}
 use Rattle.contents.specs.Contents.{Entry, staticEntry, rowEntry, markerEntry, Contents, valuesListed, cellsListed, entryListed, entriesListed, partitionListed, listed}
 use Rattle.forms.specs.Views.{CellView, RowView, MarkerView, EntryView, staticView, rowView, markerView, PartitionView, showValue, showValues, showCell, showCells, showRow, showMarker, showEntry, showEntries, showPartition, showContents}
 use Rattle.forms.proofs.Fields.{shown-none}
 use Rattle.taken.specs.Listings.{nowhere, placeless, allPlaceless, ItemView, showItem, showItems}
-use Rattle.taken.proofs.Goods.{yes-or-no, shown-length}
+use Rattle.taken.proofs.Goods.{shown-length}
 use Rattle.taken.proofs.Heads.{Flagged}
 
 -- ---- places of whole items do not show

@@ -1,30 +1,25 @@
 -- What reading gives is listed as items that the writer takes, and they say the same again. Assumes nothing.
-use mathlib.Core.Path.{_≡_, refl, sym, subst, ap, _∙_}
+use mathlib.Core.Path.{_≡_, refl, sym, subst, _∙_}
 use mathlib.Core.Bool.{Bool, true, false}
-use mathlib.Core.List.{List, []}
+use mathlib.Core.List.{List}
 use Prim.Native.Nat.{ℕ, _+_, _-_, _/_, _%_, _^_, _≤_, _<_}
 use native.Mathlib.Omega.{arith}
-use borrow.Author.Tests.{le-ltb, lt-ltb, ltb-false, eq-eqb, ne-eqb, eqb-true, eqb-false}
+use borrow.Author.Tests.{le-ltb, eq-eqb, ne-eqb, eqb-true, eqb-false}
 use lib.Dec.{ltb, eqb}
 use lib.ListN.{length}
 use Rattle.wire.specs.Choose.{pick, bind}
 use Rattle.wire.specs.declared.times.Bases.{Bases}
 use Rattle.wire.proofs.Choose.{pick-yes, pick-no, pick-ind}
-use Rattle.cell.specs.Fields.{span, deletion, live}
 use Rattle.cell.specs.Cells.{cell}
-use Rattle.cell.specs.declared.fields.Deletion.{Deletion}
 use Rattle.cell.specs.declared.fields.Span.{Span}
-use Rattle.cell.specs.declared.cells.Times.{Times}
 use Rattle.cell.specs.declared.cells.Cell.{Cell}
-use Rattle.cell.proofs.Ranges.{In, TimestampIn, LocalIn, TTLIn, DeletionIn, ValueIn}
-use Rattle.cell.proofs.Gives.{TimesIn, CellIn}
-use Rattle.row.specs.Bodies.{times}
-use Rattle.row.specs.declared.rows.Row.{Row}
-use Rattle.walk.specs.Items.{item, zeroed, markOf, timeOf, partitionFlags, cellFlags, partitionItem, rowItem, markerItem, valueItem, cellItem, endItem}
+use Rattle.cell.proofs.Ranges.{ValueIn}
+use Rattle.cell.proofs.Gives.{CellIn}
+use Rattle.walk.specs.Items.{item, zeroed, partitionFlags, cellFlags, valueItem, cellItem}
 use Rattle.walk.specs.declared.items.Item.{Item}
 use Rattle.taken.specs.Fields.{hasTime, hasExpiry, hasLocal, hasMark, hasSecond, hasColumn, stray, strayFirst, strayLast, strayNumbers}
-use Rattle.taken.specs.Tests.{unlike, badPlace, badNowhere, badWidth, badValue, badRowFlags, badValueFlags, badCellFlags, badRow, badStatic, badClustering, badCellPlace, badCell, badEnd}
-use Rattle.taken.specs.Entries.{valueOf, deletionOf, timesOf, cellOf}
+use Rattle.taken.specs.Tests.{unlike, badPlace, badNowhere, badWidth, badValue, badValueFlags, badCellFlags, badClustering, badCellPlace, badCell}
+use Rattle.taken.specs.Entries.{valueOf, cellOf}
 use Rattle.taken.proofs.Goods.{never, yes-or-no, Ranged}
 use Rattle.taken.proofs.Spelled.{Sized, Sound}
 

@@ -1,29 +1,26 @@
 -- A record of the listing is read back: its bytes spell its item. Assumes nothing.
-use mathlib.Core.Path.{_≡_, refl, sym, subst, ap, _∙_}
+use mathlib.Core.Path.{_≡_, refl, subst, _∙_}
 use mathlib.Core.Bool.{Bool, true, false}
-use mathlib.Core.List.{List, [], _∷_, _++_}
-use Prim.Native.Nat.{ℕ, _+_, _-_, _*_, _/_, _%_, _^_, _≤_, _<_}
+use mathlib.Core.List.{List, [], _++_}
+use Prim.Native.Nat.{ℕ, _+_, _-_, _/_, _%_, _^_, _<_}
 use native.Mathlib.Nat.{add-zero, div-one, mod-eq-of-lt}
 use native.Mathlib.Omega.{arith}
-use borrow.Author.Tests.{le-ltb, eq-eqb}
-use lib.Dec.{ltb, eqb}
+use borrow.Author.Tests.{le-ltb}
 use lib.ListN.{length, getD}
 use Rattle.wire.specs.Choose.{pick, bind}
-use Rattle.wire.specs.Got.{Got, got, bad, on}
 use Rattle.wire.specs.BigEndian.{bigEndian, bytesOf}
 use Rattle.wire.specs.Times.{biased}
 use Rattle.wire.specs.declared.times.Bases.{Bases}
-use Rattle.wire.proofs.BigEndian.{spelled-back, length-bytesOf}
+use Rattle.wire.proofs.BigEndian.{spelled-back}
 use Rattle.wire.proofs.RoundTrip.{Reads, reads-got, reads-no, reads-to}
 use Rattle.wire.proofs.Stands.{Stands, stands-left, stands-right, stands-byte}
-use Rattle.cell.proofs.Ranges.{In, TimestampIn, LocalIn, TTLIn}
-use Rattle.walk.specs.Items.{item}
+use Rattle.cell.proofs.Ranges.{In}
 use Rattle.walk.specs.declared.items.Item.{Item}
 use Rattle.listing.specs.Records.{signedBytes, kindBytes, columnBytes, headBytes, localBytes, timeBytes, secondBytes, placeBytes, tailBytes, recordOf}
 use Rattle.listing.proofs.Loops.{length-recordOf}
 use Rattle.taken.specs.Fields.{signedAt, itemOf, strayBytes, hasTime, hasExpiry, hasLocal, hasMark, hasSecond, strayNumbers}
 use Rattle.taken.specs.Records.{outside, lastRangesAt, rangesAt, recordAt}
-use Rattle.taken.proofs.Goods.{never, Ranged}
+use Rattle.taken.proofs.Goods.{Ranged}
 
 -- the numbers of an item fit into their bytes
 pub record Sized (i : Item) : Type 0 where

@@ -2,7 +2,7 @@
 use mathlib.Core.Path.{_≡_, refl}
 use mathlib.Core.List.{List, [], _∷_, _++_}
 use Prim.Native.Nat.{ℕ}
-use lib.ListN.{length, take}
+use lib.ListN.{take}
 use Rattle.wire.specs.Choose.{pick, bind}
 use Rattle.wire.specs.Got.{on, within}
 use Rattle.wire.specs.Refusals.{Outcome, taken, refused}

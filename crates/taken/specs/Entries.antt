@@ -1,13 +1,13 @@
 -- What the writer takes: partitions, each with its entries, as reading gives them. A row, a marker and an end have no place here (0). What is
 -- missing is told at the record that stands in its place (decision W5). Assumes nothing.
 use Prim.Native.Nat.{ℕ, zero, suc, _+_, _-_, _*_}
-use mathlib.Core.Bool.{Bool, true, false}
+use mathlib.Core.Bool.{Bool, false}
 use mathlib.Core.List.{List, [], _∷_}
 use mathlib.Core.Option.{Option, none, some}
 use lib.Dec.{eqb}
 use lib.ListN.{length, getD}
 use Rattle.wire.specs.Choose.{pick}
-use Rattle.wire.specs.Got.{Got, got, bad, on, Reader, _>>=_, ret, when}
+use Rattle.wire.specs.Got.{got, bad, on, Reader, _>>=_, ret, when}
 use Rattle.wire.specs.declared.refusal.Fault.the-variants.{BadRecord}
 use Rattle.wire.specs.declared.times.Bases.{Bases}
 use Rattle.cell.specs.Fields.{span, deletion, live}

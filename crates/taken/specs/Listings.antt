@@ -1,11 +1,14 @@
 -- "places aside": the items of a record table, and items without the places that the writer ignores. Assumes nothing.
-use Prim.Native.Nat.{ℕ, zero, suc, _+_, _/_}
+use mathlib.Core.Path.{_≡_}
+use mathlib.Core.Bool.{Bool, false}
+use Prim.Native.Nat.{ℕ, zero, suc, _+_, _*_, _/_, _≤_}
 use mathlib.Core.List.{List, [], _∷_}
 use lib.ListN.{length}
 use Rattle.wire.specs.Choose.{pick}
 use Rattle.walk.specs.Items.{item, showsValue, valueOf}
 use Rattle.walk.specs.declared.items.Item.{Item}
-use Rattle.taken.specs.Fields.{itemOf}
+use Rattle.taken.specs.Fields.{itemOf, strayBytes}
+use Rattle.taken.specs.Tests.{badPlace, badNowhere}
 
 -- the items of k records, from place at on
 unfoldable pub itemsFrom : List ℕ → ℕ → ℕ → List Item
@@ -39,3 +42,13 @@ showItem s i = record { item = nowhere i; value = valueOf s i }
 abbrev pub showItems : List ℕ → List Item → List ItemView
 showItems s [] = []
 showItems s (i ∷ l) = showItem s i ∷ showItems s l
+
+-- "a value's place outside the lent bytes, or not 0, 0 without a value": a key or value is shown in the bytes, or has no place
+unfoldable pub misplaced : List ℕ → Item → Bool
+misplaced bytes i = pick (showsValue (i .kind)) (pick (badNowhere i) (badPlace bytes i) false) false
+
+-- whole records, zero where nothing stands, whose keys and values lie in the bytes lent beside
+pub record Proper (bytes s : List ℕ) : Type 0 where
+  pub whole : length s ≡ 64 * (length s / 64)
+  pub zeros : (k : ℕ) → 64 * k + 64 ≤ length s → strayBytes s (64 * k) ≡ false
+  pub places : (k : ℕ) → 64 * k + 64 ≤ length s → misplaced bytes (itemOf s (64 * k)) ≡ false

@@ -2,11 +2,10 @@
 -- of several (decisions W1, W2, W12). Assumes nothing.
 use Prim.Native.Nat.{ℕ, _+_, _-_}
 use mathlib.Core.Bool.{Bool, true, false}
-use mathlib.Core.List.{List}
 use lib.Dec.{ltb}
 use lib.ListN.{getD}
 use Rattle.wire.specs.Choose.{pick, bind}
-use Rattle.wire.specs.Got.{Got, got, bad, on, Reader}
+use Rattle.wire.specs.Got.{Got, got, bad, Reader}
 use Rattle.wire.specs.declared.refusal.Fault.the-variants.{OutOfRange, BadRecord}
 use Rattle.wire.specs.declared.times.Bases.{Bases}
 use Rattle.walk.specs.declared.items.Item.{Item}

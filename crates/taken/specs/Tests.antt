@@ -1,6 +1,6 @@
 -- What a record may be, kind by kind: its kind, flags, column, turn, and the place of the key or value that it shows (decisions W6, W7, W9,
 -- W11). Each test tells that a record is wrong. Assumes nothing.
-use Prim.Native.Nat.{ℕ, _+_, _-_, _%_}
+use Prim.Native.Nat.{ℕ, _-_, _%_}
 use mathlib.Core.Bool.{Bool, true, false}
 use mathlib.Core.List.{List}
 use lib.Dec.{ltb, eqb}

@@ -4,7 +4,7 @@ use mathlib.Core.List.{List}
 use lib.Dec.{ltb}
 use lib.ListN.{length}
 use Rattle.wire.specs.Choose.{pick}
-use Rattle.wire.specs.Got.{Got, got, bad, on, within}
+use Rattle.wire.specs.Got.{got, on, within}
 use Rattle.wire.specs.Refusals.{Outcome, taken, refused}
 use Rattle.wire.specs.declared.refusal.Fault.the-variants.{OverLimit, OutOfRange, NoRoom}
 use Rattle.wire.specs.declared.refusal.Slice.the-variants.{Schema, Records, Bytes, Output, Bases as bases-slice}
@@ -12,7 +12,7 @@ use Rattle.wire.specs.declared.times.Bases.{Bases}
 use Rattle.schema.specs.Records.{schemaOf, anywhere}
 use Rattle.schema.specs.declared.records.Counts.{Counts}
 use Rattle.walk.specs.Tables.{badBases, after}
-use Rattle.contents.specs.Contents.{Widths, widthsOf, Contents}
+use Rattle.contents.specs.Contents.{Widths, widthsOf}
 use Rattle.forms.specs.Whole.{contentsBytes}
 use Rattle.taken.specs.Entries.{takenAt}
 
