@@ -1,5 +1,5 @@
 -- The columns of a schema that is not refused: not too many, and each has a width. Assumes nothing.
-use mathlib.Core.Path.{_≡_, refl, sym, subst, _∙_}
+use mathlib.Core.Path.{_≡_, refl, sym, ap, subst, _∙_}
 use mathlib.Core.Bool.{Bool, true, false}
 use mathlib.Core.List.{List, []}
 use Prim.Native.Nat.{ℕ, zero, suc, _+_, _-_, _*_, _/_, _≤_, _<_}
@@ -17,8 +17,8 @@ use Rattle.wire.specs.declared.refusal.Slice.the-variants.{Schema}
 use Rattle.wire.proofs.Choose.{pick-no}
 use Rattle.wire.proofs.Finite.{below-at}
 use Rattle.wire.proofs.Gives.{Gives, gives-got, gives-bad, gives-on, gives-pick}
-use Rattle.typetable.specs.Table.{table, noLine, nth, lineOf, isLine}
-use Rattle.typetable.proofs.Rows.{row-outside, line-range}
+use Rattle.typetable.specs.Table.{Line, table, noLine, nth, lineOf, isLine}
+use Rattle.typetable.proofs.Rows.{none-at, line-range}
 use Rattle.schema.specs.Records.{roleAt, lineAt, markAt, widthAt, isLineOf, isKindOf, given, inTurn, recordAt, recordsAt, none, schemaAt, schemaOf, anywhere}
 use Rattle.schema.specs.declared.records.Counts.{Counts}
 use Rattle.clustering.specs.Prefixes.{widthsAt}
@@ -80,12 +80,12 @@ role-line role l e = go (ltb role 2) (isLine l) (not-then (eqb l 24) _ e)
     go false false f = f
 
 line-wide : (role l : ℕ) → isLineOf role l ≡ true → 1 ≤ lineOf l .width
-unfolding wideLine
+unfolding wideLine noLine
 line-wide role l e = go (decLt l 35)
   where
     out : (a : Bool) → isLine l ≡ a → 34 < l → pick a true (lineOf l .column) ≡ true → 1 ≤ lineOf l .width
     out true f h g = absurd (omega (arith, line-range l f .1))
-    out false f h g = never (sym (row-outside l h .column ∙ pick-no (lineOf l .column) true _ false refl refl ∙ g))
+    out false f h g = never (sym (ap (λ (x : Line). x .column) (none-at l h) ∙ pick-no (lineOf l .column) true _ false refl refl ∙ g))
 
     go : Dec (l < 35) → 1 ≤ lineOf l .width
     go (yes h) = either (isLine l) (lineOf l .column) (lineOf l .width) (lines-wide l h) (role-line role l e)
