@@ -8,7 +8,7 @@ use wire::number::Num;
 use wire::refusal::Fault;
 
 // Whether a number is no kind of a marker.
-pub fn bad_kind(kind: u64) -> bool
+fn bad_kind(kind: u64) -> bool
     ensures { λ r. ⌜ r ≡ badKind kind ⌝ }
 {
     if 7 < kind {
@@ -21,7 +21,7 @@ pub fn bad_kind(kind: u64) -> bool
 }
 
 // Whether a kind is a start.
-pub fn is_start(kind: u64) -> bool
+pub(crate) fn is_start(kind: u64) -> bool
     ensures { λ r. ⌜ r ≡ isStart kind ⌝ }
 {
     if kind == 1 {
@@ -31,7 +31,7 @@ pub fn is_start(kind: u64) -> bool
 }
 
 // Whether a kind is an end with a start.
-pub fn is_boundary(kind: u64) -> bool
+pub(crate) fn is_boundary(kind: u64) -> bool
     ensures { λ r. ⌜ r ≡ isBoundary kind ⌝ }
 {
     if kind == 2 {
@@ -41,7 +41,7 @@ pub fn is_boundary(kind: u64) -> bool
 }
 
 // Whether a kind is out of turn; opened is 0 where no range is open.
-pub fn out_of_turn(kind: u64, opened: u8) -> bool
+fn out_of_turn(kind: u64, opened: u8) -> bool
     ensures { λ r. ⌜ r ≡ outOfTurn kind opened ⌝ }
 {
     if is_start(kind) {

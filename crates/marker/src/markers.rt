@@ -45,7 +45,7 @@ pub enum Found {
 }
 
 // Whether mark and local time are the same.
-pub fn is_same_deletion(d: Deletion, e: Deletion) -> bool
+fn is_same_deletion(d: Deletion, e: Deletion) -> bool
     ensures { λ r. ⌜ r ≡ sameDeletion d e ⌝ }
 {
     if d.mark == e.mark {

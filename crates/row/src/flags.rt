@@ -38,7 +38,7 @@ pub(crate) fn read_row_flags(s: &[u8], at: usize, end: usize) -> Num
 }
 
 // Whether a static row may stand here: `first` is 1 right behind the partition's header, else 0.
-pub fn may_stand(first: u8, statics: u64) -> bool
+fn may_stand(first: u8, statics: u64) -> bool
     ensures { λ r. ⌜ r ≡ mayStand first statics ⌝ }
 {
     if 0 < first {

@@ -1,3 +1,0 @@
--- What the code's answers say (Said), and a record as a plain one with a test (Plain).
-pub mod Said
-pub mod Plain

@@ -1,5 +1,0 @@
-// The records that the writer is lent, one at a time. Internal: for the writer.
-pub mod fields; // fields.rt: the numbers of a record, and which of them are used
-pub mod ranges; // ranges.rt: the numbers' ranges
-pub mod tests; // tests.rt: what a record of each kind may be
-pub mod records; // records.rt: a record of each kind
