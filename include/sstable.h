@@ -1,4 +1,5 @@
-/* The C interface of the library. Link target/staticlib/libsstable.a (made by `rt staticlib sstable`).
+/* The C interface of the library. Link target/staticlib/libsstable.a (made by `rt staticlib sstable`) and, for the calls that take bases
+ * and sstable_value, target/staticlib/libsstable_data.a (made by `rt staticlib sstable_data`).
  *
  * Every call is total: it takes any bytes, and either answers or refuses with a number, a slice and a place. A refusal changes
  * no lent byte. Slices are a pointer and a length; a length of 0 goes with any pointer that is not null.
@@ -101,6 +102,16 @@ void sstable_count(const uint8_t *schema, size_t schema_len, const uint64_t base
  * Words: 3 how many records were stored. */
 void sstable_list(const uint8_t *schema, size_t schema_len, const uint64_t bases[3], const uint8_t *data, size_t data_len,
                   uint8_t *out, size_t out_len, uint64_t answer[4]);
+
+/* Writes Data from `records`, 64-byte records as `sstable_list` stores them, into the start of `out`; keys and values are the parts of
+ * `bytes` that the records show by offset and length. The place of a static row, row, marker or end is not looked at. It takes exactly the
+ * record tables that some accepted Data lists as under these bases, places aside; what it writes lists as those records again. Refuses: 1 at 0 of
+ * schema, records, bytes, output, in this order; 5 at 0 of bases; 10 in schema; record by record, in records, 10 at the record's first byte and
+ * then 5 at a number that is out of range or below its base; 10 at the end of a list that is cut short; last 13 in output with the bytes
+ * needed. Only where it is taken is `out` changed, and then not behind the Data.
+ * Words: 3 the length of the Data. */
+void sstable_write(const uint8_t *schema, size_t schema_len, const uint64_t bases[3], const uint8_t *records, size_t records_len,
+                   const uint8_t *bytes, size_t bytes_len, uint8_t *out, size_t out_len, uint64_t answer[4]);
 
 #ifdef __cplusplus
 }

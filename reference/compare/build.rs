@@ -1,4 +1,4 @@
-//! Links the proved library's static archive, `libsstable.a`.
+//! Links the proved library's static archives, `libsstable.a` and `libsstable_data.a`.
 
 use std::env;
 use std::path::PathBuf;
@@ -10,17 +10,19 @@ fn main() {
         Some(dir) => PathBuf::from(dir),
         None => manifest.join("../../target/staticlib"),
     };
-    let archive = dir.join("libsstable.a");
-    println!("cargo:rerun-if-changed={}", archive.display());
-    if !archive.is_file() {
-        panic!(
-            "\n\nThe proved library is not there: {}\n\
-             Build its static archive first (`rt staticlib sstable` at the top of the \
-             repository), or name the folder that holds libsstable.a in the environment \
-             variable SSTABLE_ARCHIVE_DIR.\n",
-            archive.display()
-        );
-    }
     println!("cargo:rustc-link-search=native={}", dir.display());
-    println!("cargo:rustc-link-lib=static=sstable");
+    for name in ["sstable", "sstable_data"] {
+        let archive = dir.join(format!("lib{name}.a"));
+        println!("cargo:rerun-if-changed={}", archive.display());
+        if !archive.is_file() {
+            panic!(
+                "\n\nThe proved library is not there: {}\n\
+                 Build its static archives first (`rt staticlib sstable` and `rt staticlib \
+                 sstable_data` at the top of the repository), or name the folder that holds them \
+                 in the environment variable SSTABLE_ARCHIVE_DIR.\n",
+                archive.display()
+            );
+        }
+        println!("cargo:rustc-link-lib=static={name}");
+    }
 }

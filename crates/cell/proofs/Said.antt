@@ -5,7 +5,7 @@ use Rattle.wire.specs.Got.{Got, got, bad, on}
 use Rattle.wire.specs.declared.refusal.Fault.{Fault}
 use Rattle.wire.proofs.Choose.{told}
 use Rattle.cell.specs.Fields.{saidPart, saidDeleted}
-use Rattle.cell.specs.Cells.{saidFound}
+use Rattle.cell.specs.Cells.{saidLasting, saidFound}
 use Rattle.cell.specs.declared.fields.Span.{Span}
 use Rattle.cell.specs.declared.fields.Part.{Part}
 use Rattle.cell.specs.declared.fields.Part.the-variants.{Lies, Refused as part-refused}
@@ -13,6 +13,8 @@ use Rattle.cell.specs.declared.fields.Deletion.{Deletion}
 use Rattle.cell.specs.declared.fields.Deleted.{Deleted}
 use Rattle.cell.specs.declared.fields.Deleted.the-variants.{By, Refused as deleted-refused}
 use Rattle.cell.specs.declared.cells.Cell.{Cell}
+use Rattle.cell.specs.declared.cells.Lasting.{Lasting}
+use Rattle.cell.specs.declared.cells.Lasting.the-variants.{Till, Refused as lasting-refused}
 use Rattle.cell.specs.declared.cells.Found.{Found}
 use Rattle.cell.specs.declared.cells.Found.the-variants.{Read, Refused as found-refused}
 
@@ -52,6 +54,24 @@ module _ {B : Type 0} (q : Got B) (k : Deletion → ℕ → Got B) (r : Deleted)
   unfolding on saidDeleted
   on-deleted-bad y p e f g = rw (← e, f) g
 
+-- ---- Lasting
+pub lasting-is : (kind local ttl n : ℕ) (q : Got (ℕ × (ℕ × ℕ))) → got (kind, (local, ttl)) n ≡ q → saidLasting (Till kind local ttl n) ≡ q
+unfolding saidLasting
+lasting-is kind local ttl n q e = e
+
+pub lasting-bad : (f : Fault) (p : ℕ) (q : Got (ℕ × (ℕ × ℕ))) → bad f p ≡ q → saidLasting (lasting-refused f p) ≡ q
+unfolding saidLasting
+lasting-bad f p q e = e
+
+module _ {B : Type 0} (q : Got B) (k : ℕ × (ℕ × ℕ) → ℕ → Got B) (r : Lasting) (x : Got (ℕ × (ℕ × ℕ))) where
+  pub on-lasting : (kind local ttl n : ℕ) → saidLasting r ≡ x → r ≡ Till kind local ttl n → q ≡ k (kind, (local, ttl)) n → q ≡ on x k
+  unfolding on saidLasting
+  on-lasting kind local ttl n e f g = rw (← e, f) g
+
+  pub on-lasting-bad : (y : Fault) (p : ℕ) → saidLasting r ≡ x → r ≡ lasting-refused y p → q ≡ bad y p → q ≡ on x k
+  unfolding on saidLasting
+  on-lasting-bad y p e f g = rw (← e, f) g
+
 -- ---- Found
 pub found-is : (v : Cell) (n : ℕ) (q : Got Cell) → got v n ≡ q → saidFound (Read v n) ≡ q
 unfolding saidFound
@@ -70,7 +90,7 @@ module _ {B : Type 0} (q : Got B) (k : Cell → ℕ → Got B) (r : Found) (x : 
   unfolding on saidFound
   on-found-bad y p e f g = rw (← e, f) g
 
-pub ruleset answers = (told, on-part, on-part-bad, part-is, part-bad, on-deleted, on-deleted-bad, deleted-is, deleted-bad, on-found, on-found-bad, found-is, found-bad)
+pub ruleset answers = (told, on-part, on-part-bad, part-is, part-bad, on-deleted, on-deleted-bad, deleted-is, deleted-bad, on-lasting, on-lasting-bad, lasting-is, lasting-bad, on-found, on-found-bad, found-is, found-bad)
 
 -- ---- what a callee's answer tells of its definition
 pub part-got : (r : Part) (x : Got Span) (v : Span) (n : ℕ) → saidPart r ≡ x → r ≡ Lies v n → x ≡ got v n

@@ -12,6 +12,8 @@ use Rattle.wire.specs.declared.times.Bases.{Bases}
 use Rattle.cell.specs.declared.fields.Span.{Span}
 use Rattle.cell.specs.declared.cells.Times.{Times}
 use Rattle.cell.specs.declared.cells.Cell.{Cell}
+use Rattle.cell.specs.declared.cells.Lasting.{Lasting}
+use Rattle.cell.specs.declared.cells.Lasting.the-variants.{Till, Refused as lasting-refused}
 use Rattle.cell.specs.declared.cells.Found.{Found}
 use Rattle.cell.specs.declared.cells.Found.the-variants.{Read, Refused}
 
@@ -67,7 +69,26 @@ timedAt b row w f =
 unfoldable pub cellAt : Bases → Times → ℕ → Reader Cell
 cellAt b row w = flagsAt row >>= (λ f. timedAt b row w f)
 
--- what the code's answer says
+-- ---- the same in parts, as the code reads them
+-- the timestamp: the row's with flag 08
+unfoldable pub timeAt : Bases → Times → ℕ → Reader ℕ
+timeAt b row f = when (eqb (f / 8 % 2) 1) (ret (row .timestamp)) (timestampAt b)
+
+-- kind, local deletion time and TTL of a cell that is no tombstone; an expiry of its own
+unfoldable pub ownAt : Bases → Reader (ℕ × (ℕ × ℕ))
+ownAt b = localAt b >>= (λ x. ttlAt b >>= (λ y. ret (1, (x, y))))
+
+unfoldable pub lastingAt : Bases → Times → ℕ → Reader (ℕ × (ℕ × ℕ))
+lastingAt b row f =
+    when (eqb (f / 2 % 2) 1)
+    (when (eqb (f / 16 % 2) 1) (ret (1, (row .local, row .ttl))) (ownAt b))
+    (ret (0, (0, 0)))
+
+-- what the code's answers say
+unfoldable pub saidLasting : Lasting → Got (ℕ × (ℕ × ℕ))
+saidLasting (Till kind local ttl n) = got (kind, (local, ttl)) n
+saidLasting (lasting-refused f p) = bad f p
+
 unfoldable pub saidFound : Found → Got Cell
 saidFound (Read c n) = got c n
 saidFound (Refused f p) = bad f p

@@ -1,7 +1,7 @@
 // One cell.
 ghost use mathlib.Core.Path.{_≡_};
 ghost use Rattle.wire.specs.Got.{saidNum};
-ghost use Rattle.cell.specs.Cells.{badFlags, flagsAt, lastAt, expiringAt, contentAt, timedAt, cellAt, saidFound};
+ghost use Rattle.cell.specs.Cells.{badFlags, flagsAt, lastAt, ownAt, lastingAt, contentAt, timeAt, timedAt, cellAt, saidLasting, saidFound};
 use crate::fields;
 use crate::fields::Part;
 use crate::fields::Span;
@@ -26,6 +26,20 @@ pub struct Cell {
     pub local: u64,
     pub ttl: u64,
     pub value: Span,
+}
+
+enum Lasting {
+    // The kind, local deletion time and TTL of a cell that is no tombstone, and the place after them.
+    Till {
+        kind: u8,
+        local: u64,
+        ttl: u64,
+        next: usize,
+    },
+    Refused {
+        fault: Fault,
+        place: usize,
+    },
 }
 
 pub enum Found {
@@ -115,35 +129,51 @@ fn read_last(
     }
 }
 
-// What follows the timestamp of an expiring cell.
-fn read_expiring(
-    s: &[u8],
-    at: usize,
-    end: usize,
-    width: u8,
-    b: Bases,
-    row: Times,
-    f: u64,
-    timestamp: u64,
-) -> Found
-    ensures { λ r. ⌜ saidFound r ≡ expiringAt b row width f timestamp (now (s .entry)) at end ⌝ }
+// The expiry of a cell that has its own.
+fn read_own(s: &[u8], at: usize, end: usize, b: Bases) -> Lasting
+    ensures { λ r. ⌜ saidLasting r ≡ ownAt b (now (s .entry)) at end ⌝ }
 {
-    if f / 16 % 2 == 1 {
-        return read_last(s, at, end, width, f, 1, timestamp, row.local, row.ttl);
-    }
     match fields::read_local(s, at, end, b) {
         Num::Number { value: local, next } => match fields::read_ttl(s, next, end, b) {
             Num::Number {
                 value: ttl,
                 next: after,
-            } => read_last(s, after, end, width, f, 1, timestamp, local, ttl),
-            Num::Refused { fault, place } => Found::Refused { fault, place },
+            } => Lasting::Till {
+                kind: 1,
+                local,
+                ttl,
+                next: after,
+            },
+            Num::Refused { fault, place } => Lasting::Refused { fault, place },
         },
-        Num::Refused { fault, place } => Found::Refused { fault, place },
+        Num::Refused { fault, place } => Lasting::Refused { fault, place },
     }
 }
 
-// What follows the timestamp.
+// The expiry of a cell that is no tombstone.
+fn read_lasting(s: &[u8], at: usize, end: usize, b: Bases, row: Times, f: u64) -> Lasting
+    ensures { λ r. ⌜ saidLasting r ≡ lastingAt b row f (now (s .entry)) at end ⌝ }
+{
+    if f / 2 % 2 == 1 {
+        if f / 16 % 2 == 1 {
+            return Lasting::Till {
+                kind: 1,
+                local: row.local,
+                ttl: row.ttl,
+                next: at,
+            };
+        }
+        return read_own(s, at, end, b);
+    }
+    Lasting::Till {
+        kind: 0,
+        local: 0,
+        ttl: 0,
+        next: at,
+    }
+}
+
+// What follows the timestamp: its parts one after the other, so that each is read at one place of the code.
 fn read_content(
     s: &[u8],
     at: usize,
@@ -175,20 +205,35 @@ fn read_content(
             }
         }
     }
-    if f / 2 % 2 == 1 {
-        return read_expiring(s, at, end, width, b, row, f, timestamp);
+    match read_lasting(s, at, end, b, row, f) {
+        Lasting::Till {
+            kind,
+            local,
+            ttl,
+            next,
+        } => read_last(s, next, end, width, f, kind, timestamp, local, ttl),
+        Lasting::Refused { fault, place } => Found::Refused { fault, place },
     }
-    read_last(s, at, end, width, f, 0, timestamp, 0, 0)
+}
+
+// The timestamp: the row's, or the cell's own.
+fn read_time(s: &[u8], at: usize, end: usize, b: Bases, row: Times, f: u64) -> Num
+    ensures { λ r. ⌜ saidNum r ≡ timeAt b row f (now (s .entry)) at end ⌝ }
+{
+    if f / 8 % 2 == 1 {
+        return Num::Number {
+            value: row.timestamp,
+            next: at,
+        };
+    }
+    fields::read_timestamp(s, at, end, b)
 }
 
 // What follows the flags.
 fn read_timed(s: &[u8], at: usize, end: usize, width: u8, b: Bases, row: Times, f: u64) -> Found
     ensures { λ r. ⌜ saidFound r ≡ timedAt b row width f (now (s .entry)) at end ⌝ }
 {
-    if f / 8 % 2 == 1 {
-        return read_content(s, at, end, width, b, row, f, row.timestamp);
-    }
-    match fields::read_timestamp(s, at, end, b) {
+    match read_time(s, at, end, b, row, f) {
         Num::Number { value, next } => read_content(s, next, end, width, b, row, f, value),
         Num::Refused { fault, place } => Found::Refused { fault, place },
     }

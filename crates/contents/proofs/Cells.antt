@@ -27,7 +27,7 @@ use Rattle.cell.proofs.Gives.{cell-gives}
 use Rattle.clustering.specs.Prefixes.{widthsAt}
 use Rattle.row.specs.Bodies.{columns}
 use Rattle.schema.specs.declared.records.Counts.{Counts}
-use Rattle.walk.specs.Items.{cellItem}
+use Rattle.items.specs.Items.{cellItem}
 use Rattle.walk.specs.Cursors.{hand, cursor, outside, badCells, behindCell}
 use Rattle.walk.specs.Steps.{Handed, badState, stepIn, handed, itemStep, cellStep, cellsStep, cellsAnswer}
 use Rattle.walk.specs.Walks.{add, follow}

@@ -16,7 +16,7 @@ use Rattle.wire.specs.declared.times.Bases.{Bases}
 use Rattle.cell.specs.Fields.{byteAt, live}
 use Rattle.cell.specs.declared.fields.Deletion.{Deletion}
 use Rattle.schema.specs.declared.records.Counts.{Counts}
-use Rattle.walk.specs.Items.{endItem}
+use Rattle.items.specs.Items.{endItem}
 use Rattle.walk.specs.Cursors.{atItems}
 use Rattle.walk.specs.Steps.{stepIn, endStep, markerStep, rowStep, itemStep}
 use Rattle.walk.specs.Walks.{follow}

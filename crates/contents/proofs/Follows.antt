@@ -12,7 +12,7 @@ use Rattle.wire.specs.declared.refusal.Fault.{Fault}
 use Rattle.wire.specs.declared.refusal.Slice.the-variants.{Data}
 use Rattle.walk.specs.Steps.{Handed, handed}
 use Rattle.walk.specs.Walks.{add, follow}
-use Rattle.walk.specs.declared.items.Item.{Item}
+use Rattle.items.specs.declared.Item.{Item}
 use Rattle.walk.specs.declared.cursors.Cursor.{Cursor}
 
 -- a walk's items, or its refusal

@@ -24,7 +24,8 @@ use Rattle.cell.specs.declared.cells.Cell.{Cell}
 use Rattle.cell.proofs.Ranges.{Goes, Moves, goes-none, goes-goes, moves-on, moves-moves, fixed-moves, byte-gives}
 use Rattle.cell.proofs.Gives.{CellOk, cell-gives}
 use Rattle.clustering.proofs.Gives.{ValuesIn, values-give}
-use Rattle.row.specs.Flags.{mayStand, extendedOf, extendedAt}
+use Rattle.row.specs.Flags.{extendedOf, extendedAt}
+use Rattle.turns.specs.Turns.{mayStand}
 use Rattle.row.specs.Rows.{restAt, rowAt}
 use Rattle.row.specs.declared.bodies.Body.{Body}
 use Rattle.row.specs.declared.rows.Row.{Row}

@@ -16,7 +16,7 @@ use Rattle.cell.specs.Fields.{live}
 use Rattle.partition.specs.Partitions.{partitionAt}
 use Rattle.partition.specs.declared.partitions.Partition.{Partition as Header}
 use Rattle.schema.specs.declared.records.Counts.{Counts}
-use Rattle.walk.specs.Items.{partitionItem}
+use Rattle.items.specs.Items.{partitionItem}
 use Rattle.walk.specs.Cursors.{atItems}
 use Rattle.walk.specs.Steps.{stepIn, handed, partitionStep, partitionAnswer}
 use Rattle.walk.specs.Walks.{start, add, follow, walkFrom}

@@ -17,7 +17,7 @@ use Rattle.marker.specs.Markers.{markerAt, openAfter}
 use Rattle.marker.specs.declared.markers.Marker.{Marker}
 use Rattle.marker.proofs.Gives.{MarkerOk, marker-gives}
 use Rattle.schema.specs.declared.records.Counts.{Counts}
-use Rattle.walk.specs.Items.{markerItem}
+use Rattle.items.specs.Items.{markerItem}
 use Rattle.walk.specs.Cursors.{hand, cursor, outside, badColumn, badPrefix, atItems, behindMarker}
 use Rattle.walk.specs.Steps.{stepIn, handed, markerStep, valueStep, prefixAnswer}
 use Rattle.walk.specs.Walks.{add, follow}

@@ -26,11 +26,11 @@ use Rattle.row.specs.declared.bodies.Body.{Body}
 use Rattle.row.specs.declared.rows.Row.{Row}
 use Rattle.row.proofs.Gives.{RestOk, RowOk, row-gives}
 use Rattle.schema.specs.declared.records.Counts.{Counts}
-use Rattle.walk.specs.Items.{rowItem}
+use Rattle.items.specs.Items.{rowItem}
 use Rattle.walk.specs.Cursors.{hand, cursor, outside, badColumn, badValues, atItems, atCells, behindRow}
 use Rattle.walk.specs.Steps.{Handed, badState, stepIn, handed, rowHanded, rowStep, itemStep, valueStep, itemAnswer, valuesAnswer, staticsAnswer, cellsAnswer}
 use Rattle.walk.specs.Walks.{add, follow}
-use Rattle.walk.specs.declared.items.Item.{Item}
+use Rattle.items.specs.declared.Item.{Item}
 use Rattle.walk.specs.declared.cursors.Phase.{Phase}
 use Rattle.walk.specs.declared.cursors.Phase.the-variants.{First, Items, Values, Statics, Cells}
 use Rattle.walk.specs.declared.cursors.Cursor.{Cursor}

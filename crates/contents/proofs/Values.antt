@@ -15,7 +15,7 @@ use Rattle.cell.specs.declared.cells.Times.{Times}
 use Rattle.clustering.specs.Prefixes.{clusteringAt, valuesAt, widthsAt}
 use Rattle.clustering.proofs.Gives.{clustering-gives, values-give}
 use Rattle.schema.specs.declared.records.Counts.{Counts}
-use Rattle.walk.specs.Items.{valueItem}
+use Rattle.items.specs.Items.{valueItem}
 use Rattle.walk.specs.Cursors.{hand, cursor, behindValue}
 use Rattle.walk.specs.Steps.{stepIn, handed, valueStep}
 use Rattle.walk.specs.Walks.{add, follow}

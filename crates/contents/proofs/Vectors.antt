@@ -15,14 +15,15 @@ use Rattle.cell.specs.Fields.{byteAt, inAt, deletionAt, variableAt, valueAt}
 use Rattle.cell.specs.Cells.{badFlags, flagsAt, lastAt, expiringAt, contentAt, timedAt, cellAt}
 use Rattle.clustering.specs.Prefixes.{badHeader, headerAt, clusteringAt, valuesAt, skipped, prefixAt, widthsAt}
 use Rattle.clustering.specs.Sizes.{sizesAt}
-use Rattle.row.specs.Flags.{badRowFlags, rowFlagsAt, mayStand, extendedOf, extendedAt}
+use Rattle.row.specs.Flags.{badRowFlags, rowFlagsAt, extendedOf, extendedAt}
+use Rattle.turns.specs.Turns.{mayStand}
 use Rattle.row.specs.Bodies.{expiryAt, livenessAt, rowDeletionAt, columns, presentAt, bodyAt}
 use Rattle.row.specs.Bodies.{contentAt as rowContentAt}
 use Rattle.row.specs.Rows.{restAt, rowAt}
 use Rattle.partition.specs.Partitions.{keyOf, deletedBy, deletedAt, partitionAt}
 use Rattle.schema.specs.declared.records.Counts.{Counts}
-use Rattle.walk.specs.Items.{item, zeroed, markOf, timeOf, partitionFlags, cellFlags, partitionItem, rowItem, valueItem, cellItem, endItem}
-use Rattle.walk.specs.declared.items.Item.{Item}
+use Rattle.items.specs.Items.{item, zeroed, markOf, timeOf, partitionFlags, cellFlags, partitionItem, rowItem, valueItem, cellItem, endItem}
+use Rattle.items.specs.declared.Item.{Item}
 use Rattle.contents.specs.Contents.{widthsOf, cellsAt, bodyCellsAt, rowEntryAt, entryAt, closedAt, entriesIn, entriesAt, wholeAt, partitionsIn, contentsAt, listing, contentsOf}
 
 abbrev base : Bases

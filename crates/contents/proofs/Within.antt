@@ -20,10 +20,10 @@ use Rattle.clustering.proofs.Gives.{ValuesIn}
 use Rattle.row.specs.declared.rows.Row.{Row}
 use Rattle.marker.specs.declared.markers.Marker.{Marker}
 use Rattle.schema.specs.declared.records.Counts.{Counts}
-use Rattle.walk.specs.Items.{partitionItem, rowItem, markerItem, valueItem, cellItem, endItem}
+use Rattle.items.specs.Items.{partitionItem, rowItem, markerItem, valueItem, cellItem, endItem}
 use Rattle.walk.specs.Tables.{Table}
 use Rattle.walk.specs.Walks.{start, walkFrom}
-use Rattle.walk.specs.declared.items.Item.{Item}
+use Rattle.items.specs.declared.Item.{Item}
 use Rattle.contents.specs.Contents.{Widths, widthsOf, Entry, staticEntry, rowEntry, markerEntry, Contents, openBehind, contentsAt, valuesListed, cellsListed, entryListed, entriesListed, partitionListed, listed, listing, contentsOf}
 use Rattle.contents.proofs.Gives.{CellsIn, RowIn, EntryIn, EntriesIn, ContentsIn, AllIn, row-placed, entry-moves, partition-moves, contents-give}
 use Rattle.contents.proofs.Lists.{walk-lists}

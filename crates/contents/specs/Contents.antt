@@ -26,8 +26,8 @@ use Rattle.marker.specs.declared.markers.Marker.{Marker}
 use Rattle.partition.specs.Partitions.{partitionAt}
 use Rattle.partition.specs.declared.partitions.Partition.{Partition}
 use Rattle.schema.specs.declared.records.Counts.{Counts}
-use Rattle.walk.specs.Items.{partitionItem, rowItem, markerItem, valueItem, cellItem, endItem}
-use Rattle.walk.specs.declared.items.Item.{Item}
+use Rattle.items.specs.Items.{partitionItem, rowItem, markerItem, valueItem, cellItem, endItem}
+use Rattle.items.specs.declared.Item.{Item}
 
 -- ---- what is read
 -- the widths of a table's columns, by role

@@ -4,15 +4,14 @@ use mathlib.Core.Path.{_≡_, refl, _∙_, ap}
 use mathlib.Core.List.{List, [], _∷_, _++_}
 use Prim.Native.Nat.{ℕ, _+_, _-_, _^_}
 use lib.Ieee as Ieee
-use lib.ListN.{length}
 use Rattle.wire.specs.Choose.{pick, bind}
-use Rattle.wire.specs.Got.{Got, got, bad, on, within}
-use Rattle.wire.specs.Refusals.{Outcome, taken, refused}
+use Rattle.wire.specs.Got.{on, within}
 use Rattle.wire.specs.BigEndian.{bigEndian, bytesOf, fixedAt}
 use Rattle.wire.specs.Store.{part, shown}
 use Rattle.wire.specs.Times.{biased}
-use Rattle.wire.specs.Varints.{leading, low, varintAt, form, extra, shortest}
+use Rattle.wire.specs.Varints.{leading, low, varintAt}
 use Rattle.wire.specs.declared.times.Bases.{Bases}
+use Rattle.wire.proofs.Vectors.{Spells, vectors}
 use Rattle.typetable.specs.Text.{text, same, among}
 use Rattle.typetable.specs.Table.{table, lineIn, nth, isLine}
 use Rattle.typetable.specs.Table.{lineOf as typeLine}
@@ -33,12 +32,13 @@ use Rattle.cell.specs.Fields.{byteAt, inAt, deletionAt, variableAt, valueAt}
 use Rattle.cell.specs.Cells.{badFlags, flagsAt, lastAt, expiringAt, contentAt, timedAt, cellAt}
 use Rattle.clustering.specs.Prefixes.{badHeader, headerAt, clusteringAt, valuesAt, skipped, prefixAt, widthsAt}
 use Rattle.clustering.specs.Sizes.{sizesAt}
-use Rattle.row.specs.Flags.{badRowFlags, rowFlagsAt, mayStand, extendedOf, extendedAt}
+use Rattle.row.specs.Flags.{badRowFlags, rowFlagsAt, extendedOf, extendedAt}
+use Rattle.turns.specs.Turns.{mayStand}
 use Rattle.row.specs.Bodies.{expiryAt, livenessAt, rowDeletionAt, columns, presentAt, bodyAt}
 use Rattle.row.specs.Bodies.{contentAt as rowContentAt}
 use Rattle.row.specs.Rows.{restAt, rowAt}
 use Rattle.partition.specs.Partitions.{keyOf, deletedBy, deletedAt, partitionAt}
-use Rattle.walk.specs.Items.{markOf, timeOf, partitionFlags, cellFlags, partitionItem, rowItem, valueItem, cellItem, endItem}
+use Rattle.items.specs.Items.{markOf, timeOf, partitionFlags, cellFlags, partitionItem, rowItem, valueItem, cellItem, endItem}
 use Rattle.walk.specs.Tables.{badBases, after, tableAt}
 use Rattle.contents.specs.Contents.{widthsOf, cellsAt, bodyCellsAt, rowEntryAt, entryAt, closedAt, entriesIn, entriesAt, wholeAt, partitionsIn, contentsAt, listing, contentsOf}
 use Rattle.listing.specs.Lists.{listAt}
@@ -46,10 +46,6 @@ use Rattle.lines.specs.Numbers.{digits, decimal, signed}
 use Rattle.lines.specs.Lines.{spaced, ended, lineOf, linesOf, refusalLine}
 use Rattle.lines.specs.Reports.{statisticsAt, listedAt, textOf, reportOf}
 use Rattle.demands.specs.OneFile.{statistics, «data», line}
-
--- "127 is 7F; 128 is 80 80; ..": the shortest form of x is bs, and bs is read as x
-abbrev Spells : ℕ → List ℕ → Type 0
-Spells x bs = (shortest x ≡ bs) × (varintAt bs 0 (length bs) ≡ got x (length bs))
 
 -- what document 01's Statistics gives
 abbrev bases : Bases
@@ -88,14 +84,8 @@ damaged : (textOf (listAt schema bases («data» 8 (1 ∷ [])) 0) ≡ line (text
 unfolding textOf listAt tableAt badBases after schemaOf schemaAt recordsAt recordAt given isKindOf isNameOf isLineOf isLine roleAt lineAt markAt widthAt recordNameAt nameLenAt zerosAt inTurn isFirst isPassed countOf mostOf withOne within table nth typeLine pick bind varintAt bigEndian fixedAt leading low on byteAt inAt deletionAt variableAt valueAt badFlags flagsAt lastAt expiringAt contentAt timedAt cellAt badHeader headerAt clusteringAt valuesAt skipped prefixAt widthsAt sizesAt badRowFlags rowFlagsAt mayStand extendedOf extendedAt expiryAt livenessAt rowDeletionAt columns presentAt rowContentAt bodyAt restAt rowAt keyOf biased deletedBy deletedAt partitionAt markOf timeOf partitionFlags cellFlags partitionItem rowItem valueItem cellItem endItem widthsOf cellsAt bodyCellsAt rowEntryAt entryAt closedAt entriesIn entriesAt wholeAt partitionsIn contentsAt listing contentsOf digits decimal signed spaced ended lineOf linesOf refusalLine
 damaged = (refl, refl, refl, refl)
 
-varints : Spells 127 (0x7F ∷ [])
-    × Spells 128 (0x80 ∷ 0x80 ∷ [])
-    × Spells (2 ^ 56) (0xFF ∷ 0x01 ∷ 0 ∷ 0 ∷ 0 ∷ 0 ∷ 0 ∷ 0 ∷ 0 ∷ [])
-    × Spells (2 ^ 64 - 1) (0xFF ∷ 0xFF ∷ 0xFF ∷ 0xFF ∷ 0xFF ∷ 0xFF ∷ 0xFF ∷ 0xFF ∷ 0xFF ∷ [])
-unfolding shortest form extra bytesOf varintAt bigEndian leading low pick bind
-varints = ((refl, refl), (refl, refl), (refl, refl), (refl, refl))
-
--- "The four varints, this file's five outcomes .. are one table, proved as one statement"
+-- "The four varints, this file's five outcomes .. are one table, proved as one statement". Spells x bs: the shortest varint of x is bs, and bs
+-- is read as x
 pub examples : Spells 127 (0x7F ∷ [])
     × Spells 128 (0x80 ∷ 0x80 ∷ [])
     × Spells (2 ^ 56) (0xFF ∷ 0x01 ∷ 0 ∷ 0 ∷ 0 ∷ 0 ∷ 0 ∷ 0 ∷ 0 ∷ [])
@@ -112,4 +102,4 @@ pub examples : Spells 127 (0x7F ∷ [])
     × Prints («data» 7 []) (line (text "refused 2 data 29"))  -- without the last byte
     × Prints [] []  -- empty Data: accepted, no records
 examples =
-    (varints .0, varints .1, varints .2, varints .3, prints _ _ five-lines, prints _ _ (damaged .0), prints _ _ (damaged .1), prints _ _ (damaged .2), prints _ _ (damaged .3))
+    (vectors .0, vectors .1, vectors .2, vectors .3, prints _ _ five-lines, prints _ _ (damaged .0), prints _ _ (damaged .1), prints _ _ (damaged .2), prints _ _ (damaged .3))

@@ -1,1 +1,2 @@
 pub mod OneFile
+pub mod Demand2

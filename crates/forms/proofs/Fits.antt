@@ -24,12 +24,15 @@ use Rattle.cell.proofs.Gives.{TimesIn, CellOk}
 use Rattle.clustering.specs.Prefixes.{prefixAt}
 use Rattle.clustering.specs.Sizes.{sizesAt}
 use Rattle.clustering.proofs.Gives.{ValuesIn}
-use Rattle.row.specs.Flags.{mayStand, rowFlagsAt, extendedOf, extendedAt}
+use Rattle.row.specs.Flags.{rowFlagsAt, extendedOf, extendedAt}
+use Rattle.turns.specs.Turns.{mayStand}
 use Rattle.row.specs.Rows.{restAt, rowAt}
 use Rattle.row.specs.declared.rows.Row.{Row}
 use Rattle.row.proofs.Gives.{RestOk, RowOk}
-use Rattle.marker.specs.Kinds.{isStart, markerFlagsAt, kindAt, countAt}
-use Rattle.marker.specs.Markers.{sameDeletion, firstAt, secondAt, deletionsAt, bodyAt, boundAt, markerAt}
+use Rattle.marker.specs.Kinds.{markerFlagsAt, kindAt, countAt}
+use Rattle.turns.specs.Turns.{isStart}
+use Rattle.marker.specs.Markers.{firstAt, secondAt, deletionsAt, bodyAt, boundAt, markerAt}
+use Rattle.turns.specs.Turns.{sameDeletion}
 use Rattle.marker.specs.declared.markers.Deletions.{Deletions}
 use Rattle.marker.specs.declared.markers.Marker.{Marker}
 use Rattle.marker.proofs.Gives.{first-gives, MarkerOk}

@@ -18,8 +18,10 @@ use Rattle.cell.specs.Fields.{live}
 use Rattle.cell.specs.declared.fields.Deletion.{Deletion}
 use Rattle.cell.proofs.Ranges.{DeletionIn}
 use Rattle.clustering.specs.Prefixes.{valuesAt}
-use Rattle.marker.specs.Kinds.{badKind, isStart, isBoundary, outOfTurn, markerFlagsAt, kindAt, countAt}
-use Rattle.marker.specs.Markers.{sameDeletion, firstAt, secondAt, deletionsAt, bodyAt, boundAt, markerAt}
+use Rattle.marker.specs.Kinds.{markerFlagsAt, kindAt, countAt}
+use Rattle.turns.specs.Turns.{badKind, isStart, isBoundary, outOfTurn}
+use Rattle.marker.specs.Markers.{firstAt, secondAt, deletionsAt, bodyAt, boundAt, markerAt}
+use Rattle.turns.specs.Turns.{sameDeletion}
 use Rattle.marker.specs.declared.markers.Deletions.{Deletions}
 use Rattle.marker.specs.declared.markers.Marker.{Marker}
 use Rattle.marker.proofs.Gives.{DeletionsIn}

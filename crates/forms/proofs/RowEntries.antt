@@ -13,7 +13,8 @@ use Rattle.wire.specs.Got.{Got, got, bad, on}
 use Rattle.wire.specs.declared.times.Bases.{Bases}
 use Rattle.wire.proofs.RoundTrip.{Reads, reads-got, reads-on, reads-at, reads-yes, reads-no, reads-to}
 use Rattle.wire.proofs.Stands.{Stands, stands-left, stands-right}
-use Rattle.row.specs.Flags.{badRowFlags, rowFlagsAt, mayStand, extendedOf, extendedAt}
+use Rattle.row.specs.Flags.{badRowFlags, rowFlagsAt, extendedOf, extendedAt}
+use Rattle.turns.specs.Turns.{mayStand}
 use Rattle.row.specs.Rows.{restAt, rowAt}
 use Rattle.row.specs.declared.rows.Row.{Row}
 use Rattle.contents.specs.Contents.{Widths, Entry, staticEntry, rowEntry, rowEntryAt}

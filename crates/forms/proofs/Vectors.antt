@@ -12,7 +12,7 @@ use Rattle.cell.specs.Fields.{deletion, live}
 use Rattle.cell.specs.declared.fields.Deletion.{Deletion}
 use Rattle.cell.specs.declared.cells.Times.{Times}
 use Rattle.row.specs.Bodies.{times}
-use Rattle.marker.specs.Kinds.{isBoundary}
+use Rattle.turns.specs.Turns.{isBoundary}
 use Rattle.marker.specs.declared.markers.Deletions.{Deletions}
 use Rattle.contents.specs.Contents.{Widths}
 use Rattle.forms.specs.Views.{CellView, RowView, MarkerView, EntryView, staticView, rowView, markerView, PartitionView}

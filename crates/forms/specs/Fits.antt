@@ -12,9 +12,10 @@ use Rattle.cell.specs.Fields.{live}
 use Rattle.cell.specs.declared.fields.Deletion.{Deletion}
 use Rattle.cell.proofs.Ranges.{TimestampIn, LocalIn, TTLIn, DeletionIn}
 use Rattle.cell.proofs.Gives.{TimesIn}
-use Rattle.row.specs.Flags.{mayStand}
-use Rattle.marker.specs.Kinds.{badKind, isStart, outOfTurn}
-use Rattle.marker.specs.Markers.{sameDeletion, openAfter}
+use Rattle.turns.specs.Turns.{mayStand}
+use Rattle.turns.specs.Turns.{badKind, isStart, outOfTurn}
+use Rattle.marker.specs.Markers.{openAfter}
+use Rattle.turns.specs.Turns.{sameDeletion}
 use Rattle.marker.proofs.Gives.{DeletionsIn}
 use Rattle.partition.proofs.Gives.{DeletedIn}
 use Rattle.contents.specs.Contents.{Widths}

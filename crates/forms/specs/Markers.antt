@@ -5,7 +5,7 @@ use lib.ListN.{length, take}
 use Rattle.wire.specs.Choose.{pick}
 use Rattle.wire.specs.BigEndian.{bytesOf}
 use Rattle.wire.specs.declared.times.Bases.{Bases}
-use Rattle.marker.specs.Kinds.{isBoundary}
+use Rattle.turns.specs.Turns.{isBoundary}
 use Rattle.marker.specs.declared.markers.Deletions.{Deletions}
 use Rattle.forms.specs.Views.{MarkerView}
 use Rattle.forms.specs.Clusterings.{prefixBytes}

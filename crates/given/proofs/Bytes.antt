@@ -1,18 +1,16 @@
 -- The Statistics that is made for a schema is a list of bytes, and short. Assumes nothing.
-use mathlib.Core.Path.{refl}
 use mathlib.Core.Bool.{Bool, true, false}
-use mathlib.Core.List.{List, [], _∷_, _++_}
-use Prim.Native.Nat.{ℕ, zero, suc, _+_, _-_, _*_, _/_, _%_, _^_, _≤_, _<_}
+use mathlib.Core.List.{List, [], _∷_}
+use Prim.Native.Nat.{ℕ, zero, suc, _+_, _*_, _≤_, _<_}
 use native.Mathlib.Omega.{arith}
 use lib.Dec.{T, ltb, leb, leb→le, ltb→lt}
-use lib.ListN.{length, getD, length-append}
+use lib.ListN.{length, getD}
 use Rattle.wire.specs.Choose.{pick, bind}
 use Rattle.wire.specs.BigEndian.{bytesOf}
-use Rattle.wire.specs.Varints.{shortest, form, extra}
+use Rattle.wire.specs.Varints.{shortest}
 use Rattle.wire.proofs.Choose.{pick-ind}
 use Rattle.wire.proofs.Finite.{allBelow, below-at}
-use Rattle.wire.proofs.BigEndian.{length-bytesOf}
-use Rattle.wire.proofs.Shortest.{extra-le, first-lt, length-shortest}
+use Rattle.wire.proofs.Within.{Within, append, wider, nothing, cons-byte, fixed-within, shortest-within}
 use Rattle.typetable.specs.Table.{table, noLine, nth, lineOf}
 use Rattle.typetable.proofs.Texts.{first-passes, then-passes}
 use Rattle.types.specs.declared.Kind.{Kind}
@@ -23,45 +21,7 @@ use Rattle.given.specs.Canonical.{letters, lettersOf, kindOf, columnByte
 use Rattle.given.proofs.Records.{Every, empty, each}
 use Rattle.given.proofs.Columns.{Kinded}
 
--- at most n bytes, each below 256
-pub record Within (n : ℕ) (w : List ℕ) : Type 0 where
-  pub most : length w ≤ n
-  pub bytes : (i : ℕ) → getD w i 0 < 256
-
-byte-append : (v w : List ℕ) → ((i : ℕ) → getD v i 0 < 256) → ((i : ℕ) → getD w i 0 < 256) → (i : ℕ) → getD (v ++ w) i 0 < 256
-byte-append [] w f g i = g i
-byte-append (x ∷ v) w f g zero = f zero
-byte-append (x ∷ v) w f g (suc i) = byte-append v w (λ j. f (suc j)) g i
-
-append : (m n : ℕ) (v w : List ℕ) → Within m v → Within n w → Within (m + n) (v ++ w)
-append m n v w f g = record { most = omega (arith, length-append v w, f .most, g .most); bytes = byte-append v w (f .bytes) (g .bytes) }
-
-wider : (m n : ℕ) (w : List ℕ) → m ≤ n → Within m w → Within n w
-wider m n w l h = record { most = omega (arith, h .most); bytes = h .bytes }
-
-nothing : Within 0 []
-nothing = record { most = omega arith; bytes = λ i. omega arith }
-
-cons-byte : (x : ℕ) (w : List ℕ) → x < 256 → ((i : ℕ) → getD w i 0 < 256) → (i : ℕ) → getD (x ∷ w) i 0 < 256
-cons-byte x w h g zero = h
-cons-byte x w h g (suc i) = g i
-
--- ---- numbers
-fixed-byte : (x n i : ℕ) → getD (bytesOf x n) i 0 < 256
-unfolding bytesOf
-fixed-byte x zero i = omega arith
-fixed-byte x (suc n) i = cons-byte (x / 256 ^ n % 256) (bytesOf x n) (omega arith) (fixed-byte x n) i
-
-fixed-within : (x n : ℕ) → Within n (bytesOf x n)
-fixed-within x n = record { most = omega (arith, length-bytesOf x n); bytes = fixed-byte x n }
-
-shortest-within : (x : ℕ) → x < 2 ^ 64 → Within 9 (shortest x)
-unfolding shortest form
-shortest-within x l = record {
-  most = omega (arith, length-shortest x, extra-le 8 x);
-  bytes = cons-byte _ (bytesOf x (extra 8 x)) (first-lt x (extra 8 x) l refl) (fixed-byte x (extra 8 x));
-}
-
+-- ---- names
 letters-within : (n : ℕ) → Within n (letters n)
 unfolding letters
 letters-within zero = nothing

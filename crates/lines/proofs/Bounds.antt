@@ -19,7 +19,7 @@ use Rattle.wire.specs.declared.refusal.Slice.{Slice}
 use Rattle.wire.specs.declared.refusal.Slice.the-variants.{Statistics, Scylla, Data, Schema, Records, Bytes, Output, Bases, State}
 use Rattle.wire.proofs.Choose.{pick-ind}
 use Rattle.wire.proofs.Puts.{room-left, room-right, puts-then}
-use Rattle.walk.specs.declared.items.Item.{Item}
+use Rattle.items.specs.declared.Item.{Item}
 use Rattle.lines.specs.Numbers.{digits, decimal, signed}
 use Rattle.lines.specs.Lines.{spaced, ended, pairOf, stampsOf, timesOf, secondOf, placeOf, restOf, tailOf, moreOf, lineOf, wordsOf, whereOf, sliceName, refusalLine}
 

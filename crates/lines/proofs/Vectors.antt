@@ -6,7 +6,7 @@ use Rattle.typetable.specs.Text.{text}
 use Rattle.wire.specs.Choose.{pick, bind}
 use Rattle.wire.specs.declared.refusal.Fault.the-variants.{PastEnd, LeftOver, NoRoom}
 use Rattle.wire.specs.declared.refusal.Slice.the-variants.{Statistics, Data, Output}
-use Rattle.walk.specs.Items.{item, zeroed}
+use Rattle.items.specs.Items.{item, zeroed}
 use Rattle.lines.specs.Numbers.{digits, decimal, signed}
 use Rattle.lines.specs.Lines.{spaced, ended, lineOf, linesOf, refusalLine}
 

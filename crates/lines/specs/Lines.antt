@@ -6,7 +6,7 @@ use Rattle.wire.specs.Refusals.{faultNumber}
 use Rattle.wire.specs.declared.refusal.Fault.{Fault}
 use Rattle.wire.specs.declared.refusal.Slice.{Slice}
 use Rattle.wire.specs.declared.refusal.Slice.the-variants.{Statistics, Scylla, Data, Schema, Records, Bytes, Output, Bases, State}
-use Rattle.walk.specs.declared.items.Item.{Item}
+use Rattle.items.specs.declared.Item.{Item}
 use Rattle.lines.specs.Numbers.{decimal, signed}
 
 -- a field with a space behind it; the last one, with the line's end

@@ -11,7 +11,7 @@ use Rattle.wire.specs.declared.refusal.Slice.the-variants.{Statistics}
 use Rattle.statistics.specs.Header.{recordsOf}
 use Rattle.statistics.specs.Statistics.{File, fileAt}
 use Rattle.walk.specs.Tables.{after}
-use Rattle.walk.specs.declared.items.Item.{Item}
+use Rattle.items.specs.declared.Item.{Item}
 use Rattle.listing.specs.Lists.{listAt}
 use Rattle.lines.specs.Lines.{linesOf, refusalLine}
 

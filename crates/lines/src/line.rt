@@ -4,7 +4,7 @@ ghost use lib.ListN.{length};
 ghost use Rattle.wire.specs.Store.{Room, Puts};
 ghost use Rattle.lines.specs.Lines.{stampsOf, timesOf, secondOf, placeOf, restOf, tailOf, moreOf, lineOf};
 use crate::numbers;
-use walk::items::Item;
+use items::Item;
 
 // No line is longer.
 pub const LONGEST: usize = 252;

@@ -18,7 +18,7 @@ use Rattle.statistics.specs.declared.Table.{Table}
 use Rattle.statistics.specs.declared.Answer.{Answer}
 use Rattle.statistics.specs.declared.Answer.the-variants.{Read, Refused as answer-refused}
 use Rattle.walk.specs.Tables.{after}
-use Rattle.walk.specs.declared.items.Item.{Item}
+use Rattle.items.specs.declared.Item.{Item}
 use Rattle.listing.specs.Lists.{listAt, counted, saidListed}
 use Rattle.listing.specs.declared.lists.Listed.{Listed}
 use Rattle.listing.specs.declared.lists.Listed.the-variants.{Records, Refused as listed-refused}

@@ -15,7 +15,7 @@ use Rattle.walk.specs.Walks.{start, remaining}
 use Rattle.walk.proofs.Schemas.{table-taken}
 use Rattle.contents.specs.Contents.{contentsOf}
 use Rattle.contents.proofs.Lists.{walk-lists}
-use Rattle.walk.specs.declared.items.Item.{Item}
+use Rattle.items.specs.declared.Item.{Item}
 use Rattle.walk.specs.declared.cursors.Cursor.{Cursor}
 use Rattle.listing.specs.Lists.{listAt}
 use Rattle.lines.specs.Lines.{linesOf, refusalLine}

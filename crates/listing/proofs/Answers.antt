@@ -25,7 +25,7 @@ use Rattle.walk.specs.Cursors.{atItems}
 use Rattle.walk.specs.Steps.{Answer, stepIn}
 use Rattle.walk.specs.Tables.{Table, after, tableAt}
 use Rattle.walk.specs.Walks.{start, remaining, add, follow, walkIn, walkFrom}
-use Rattle.walk.specs.declared.items.Item.{Item}
+use Rattle.items.specs.declared.Item.{Item}
 use Rattle.walk.specs.declared.cursors.Cursor.{Cursor}
 use Rattle.walk.proofs.Schemas.{told-table}
 use Rattle.contents.specs.Contents.{contentsOf}

@@ -23,7 +23,7 @@ use Rattle.counting.proofs.Follows.{num-bad}
 use Rattle.schema.specs.declared.records.Counts.{Counts}
 use Rattle.walk.specs.Tables.{Table}
 use Rattle.walk.specs.Walks.{start, walkFrom}
-use Rattle.walk.specs.declared.items.Item.{Item}
+use Rattle.items.specs.declared.Item.{Item}
 use Rattle.listing.specs.Records.{signedBytes, kindBytes, columnBytes, headBytes, localBytes, timeBytes, secondBytes, placeBytes, tailBytes, recordOf, recordsOf}
 use Rattle.listing.specs.Lists.{counted, recordBytes, saidListed, Ready}
 use Rattle.listing.specs.declared.lists.Listed.the-variants.{Records, Refused}

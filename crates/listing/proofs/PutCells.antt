@@ -25,8 +25,8 @@ use Rattle.cell.specs.declared.cells.Found.the-variants.{Read, Refused}
 use Rattle.cell.proofs.Said.{found-got}
 use Rattle.clustering.specs.Prefixes.{widthsAt}
 use Rattle.row.specs.Bodies.{columns}
-use Rattle.walk.specs.Items.{cellItem}
-use Rattle.walk.specs.declared.items.Item.{Item}
+use Rattle.items.specs.Items.{cellItem}
+use Rattle.items.specs.declared.Item.{Item}
 use Rattle.contents.specs.Contents.{cellsAt, cellsListed}
 use Rattle.contents.proofs.Follows.{parted}
 use Rattle.counting.specs.Counted.{wholeCellsAt}

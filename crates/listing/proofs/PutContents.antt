@@ -17,8 +17,8 @@ use Rattle.partition.specs.declared.partitions.Found.{Found}
 use Rattle.partition.specs.declared.partitions.Found.the-variants.{Read, Refused}
 use Rattle.partition.proofs.Said.{found-got}
 use Rattle.schema.specs.declared.records.Counts.{Counts}
-use Rattle.walk.specs.Items.{partitionItem}
-use Rattle.walk.specs.declared.items.Item.{Item}
+use Rattle.items.specs.Items.{partitionItem}
+use Rattle.items.specs.declared.Item.{Item}
 use Rattle.contents.specs.Contents.{widthsOf, Entry, Contents, entriesAt, wholeAt, contentsAt, entriesListed, partitionListed, listed}
 use Rattle.contents.proofs.Follows.{Parted, parted}
 use Rattle.contents.proofs.Gives.{ContentsIn, whole-gives}

@@ -21,8 +21,8 @@ use Rattle.wire.proofs.Said.{num-got}
 use Rattle.cell.specs.Fields.{live, byteAt}
 use Rattle.cell.specs.declared.fields.Deletion.{Deletion}
 use Rattle.schema.specs.declared.records.Counts.{Counts}
-use Rattle.walk.specs.Items.{endItem}
-use Rattle.walk.specs.declared.items.Item.{Item}
+use Rattle.items.specs.Items.{endItem}
+use Rattle.items.specs.declared.Item.{Item}
 use Rattle.contents.specs.Contents.{widthsOf, Entry, openBehind, rowEntryAt, markerEntryAt, entryAt, closedAt, entriesAt, entryListed, entriesListed}
 use Rattle.contents.proofs.Follows.{Parted, parted}
 use Rattle.contents.proofs.Gives.{entry-gives, entry-moves}

@@ -17,9 +17,9 @@ use Rattle.marker.specs.declared.markers.Found.{Found}
 use Rattle.marker.specs.declared.markers.Found.the-variants.{Read, Refused}
 use Rattle.marker.proofs.Gives.{MarkerOk}
 use Rattle.schema.specs.declared.records.Counts.{Counts}
-use Rattle.walk.specs.Items.{markerItem}
+use Rattle.items.specs.Items.{markerItem}
 use Rattle.walk.specs.Tables.{Table}
-use Rattle.walk.specs.declared.items.Item.{Item}
+use Rattle.items.specs.declared.Item.{Item}
 use Rattle.contents.specs.Contents.{widthsOf, Entry, markerEntry, openBehind, markerEntryAt}
 use Rattle.contents.proofs.Values.{widths-take}
 use Rattle.counting.proofs.Follows.{on-bad}

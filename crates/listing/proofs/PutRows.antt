@@ -19,8 +19,8 @@ use Rattle.row.specs.declared.rows.Row.{Row}
 use Rattle.row.specs.declared.rows.Found.{Found}
 use Rattle.row.specs.declared.rows.Found.the-variants.{Read, Refused}
 use Rattle.schema.specs.declared.records.Counts.{Counts}
-use Rattle.walk.specs.Items.{rowItem}
-use Rattle.walk.specs.declared.items.Item.{Item}
+use Rattle.items.specs.Items.{rowItem}
+use Rattle.items.specs.declared.Item.{Item}
 use Rattle.contents.specs.Contents.{widthsOf, Entry, staticEntry, rowEntry, bodyCellsAt, rowEntryAt, cellsListed, entryListed}
 use Rattle.contents.proofs.Follows.{Parted, parted}
 use Rattle.contents.proofs.Gives.{body-cells-give, row-placed}

@@ -13,8 +13,8 @@ use Rattle.cell.specs.declared.fields.Part.{Part}
 use Rattle.cell.specs.declared.fields.Part.the-variants.{Lies, Refused}
 use Rattle.cell.proofs.Said.{part-got}
 use Rattle.clustering.specs.Prefixes.{clusteringAt, valuesAt, widthsAt}
-use Rattle.walk.specs.Items.{valueItem}
-use Rattle.walk.specs.declared.items.Item.{Item}
+use Rattle.items.specs.Items.{valueItem}
+use Rattle.items.specs.declared.Item.{Item}
 use Rattle.contents.specs.Contents.{valuesListed}
 use Rattle.contents.proofs.Follows.{Parted, parted}
 use Rattle.listing.specs.Records.{recordOf, recordsOf}

@@ -11,7 +11,7 @@ use Rattle.wire.specs.declared.refusal.Fault.the-variants.{NoRoom}
 use Rattle.wire.specs.declared.refusal.Slice.the-variants.{Output}
 use Rattle.wire.specs.declared.times.Bases.{Bases}
 use Rattle.walk.specs.Tables.{after, tableAt}
-use Rattle.walk.specs.declared.items.Item.{Item}
+use Rattle.items.specs.declared.Item.{Item}
 use Rattle.contents.specs.Contents.{contentsOf}
 use Rattle.listing.specs.Records.{recordsOf}
 use Rattle.listing.specs.declared.lists.Listed.{Listed}

@@ -15,8 +15,8 @@ use Rattle.row.specs.Bodies.{columns}
 use Rattle.row.specs.declared.rows.Row.{Row}
 use Rattle.marker.specs.declared.markers.Marker.{Marker}
 use Rattle.schema.specs.declared.records.Counts.{Counts}
-use Rattle.walk.specs.Items.{rowItem, markerItem}
-use Rattle.walk.specs.declared.items.Item.{Item}
+use Rattle.items.specs.Items.{rowItem, markerItem}
+use Rattle.items.specs.declared.Item.{Item}
 use Rattle.contents.specs.Contents.{Entry, Contents, openBehind, valuesListed, cellsListed, entryListed, entriesListed, listed}
 use Rattle.counting.specs.Counted.{wholeCellsAt}
 use Rattle.listing.specs.Records.{recordsOf}

@@ -5,7 +5,7 @@ use Prim.Native.Nat.{ℕ}
 use mathlib.Core.List.{List, [], _∷_, _++_}
 use Rattle.wire.specs.BigEndian.{bytesOf}
 use Rattle.wire.specs.Times.{biased}
-use Rattle.walk.specs.declared.items.Item.{Item}
+use Rattle.items.specs.declared.Item.{Item}
 
 -- a timestamp or mark, which is kept plus 2^63
 unfoldable pub signedBytes : ℕ → List ℕ

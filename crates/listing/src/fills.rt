@@ -7,7 +7,7 @@ ghost use Rattle.wire.specs.Store.{splice, Puts};
 ghost use Rattle.cell.specs.Fields.{live};
 ghost use Rattle.clustering.specs.Prefixes.{valuesAt, widthsAt};
 ghost use Rattle.row.specs.Bodies.{columns};
-ghost use Rattle.walk.specs.Items.{rowItem, markerItem};
+ghost use Rattle.items.specs.Items.{rowItem, markerItem};
 ghost use Rattle.walk.specs.Tables.{Table};
 ghost use Rattle.contents.specs.Contents.{widthsOf, rowEntryAt, markerEntryAt, entriesAt, contentsAt};
 ghost use Rattle.counting.specs.Counted.{wholeCellsAt};
@@ -26,7 +26,6 @@ use partition::partitions;
 use row::rows;
 use row::rows::Row;
 use schema::records::Counts;
-use walk::items;
 use wire::number::Num;
 use wire::times::Bases;
 

@@ -1,7 +1,7 @@
 // A record of 64 bytes.
 ghost use Rattle.wire.specs.Store.{Room, Puts};
 ghost use Rattle.listing.specs.Records.{signedBytes, kindBytes, columnBytes, headBytes, localBytes, timeBytes, secondBytes, placeBytes, tailBytes, recordOf};
-use walk::items::Item;
+use items::Item;
 use wire::number;
 use wire::times;
 

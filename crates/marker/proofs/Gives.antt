@@ -14,8 +14,10 @@ use Rattle.wire.specs.declared.times.Bases.{Bases}
 use Rattle.cell.specs.declared.fields.Deletion.{Deletion}
 use Rattle.cell.proofs.Ranges.{Goes, Moves, goes-none, goes-goes, moves-on, moves-goes, moves-moves, DeletionIn, deletion-none, byte-gives, fixed-moves, deletion-gives}
 use Rattle.clustering.proofs.Gives.{PrefixOk, Sized, prefix-gives, sizes-give}
-use Rattle.marker.specs.Kinds.{badKind, isStart, isBoundary, outOfTurn, markerFlagsAt, kindAt, countAt}
-use Rattle.marker.specs.Markers.{sameDeletion, firstAt, secondAt, deletionsAt, bodyAt, boundAt, markerAt}
+use Rattle.marker.specs.Kinds.{markerFlagsAt, kindAt, countAt}
+use Rattle.turns.specs.Turns.{badKind, isStart, isBoundary, outOfTurn}
+use Rattle.marker.specs.Markers.{firstAt, secondAt, deletionsAt, bodyAt, boundAt, markerAt}
+use Rattle.turns.specs.Turns.{sameDeletion}
 use Rattle.marker.specs.declared.markers.Deletions.{Deletions}
 use Rattle.marker.specs.declared.markers.Marker.{Marker}
 

@@ -14,8 +14,10 @@ use Rattle.wire.specs.declared.times.Bases.{Bases}
 use Rattle.cell.specs.declared.fields.Deletion.{Deletion}
 use Rattle.clustering.specs.Prefixes.{badHeader, headerAt, clusteringAt, valuesAt, skipped, prefixAt}
 use Rattle.clustering.specs.Sizes.{sizesAt}
-use Rattle.marker.specs.Kinds.{badKind, isStart, isBoundary, outOfTurn, markerFlagsAt, kindAt, countAt}
-use Rattle.marker.specs.Markers.{marker, sameDeletion, firstAt, secondAt, deletionsAt, bodyAt, boundAt, markerAt, openAfter}
+use Rattle.marker.specs.Kinds.{markerFlagsAt, kindAt, countAt}
+use Rattle.turns.specs.Turns.{badKind, isStart, isBoundary, outOfTurn}
+use Rattle.marker.specs.Markers.{marker, firstAt, secondAt, deletionsAt, bodyAt, boundAt, markerAt, openAfter}
+use Rattle.turns.specs.Turns.{sameDeletion}
 
 abbrev base : Bases
 base = record { timestamp = 9223372036854775808; local = 0; ttl = 0 }

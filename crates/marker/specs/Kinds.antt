@@ -9,22 +9,7 @@ use Rattle.wire.specs.BigEndian.{fixedAt}
 use Rattle.wire.specs.declared.refusal.Fault.the-variants.{BadFlags, OutOfRange, OutOfTurn}
 use Rattle.cell.specs.Fields.{byteAt}
 use Rattle.cell.specs.declared.fields.Deletion.{Deletion}
-
--- a number that is no kind of a marker
-unfoldable pub badKind : ℕ → Bool
-badKind kind = pick (ltb 7 kind) true (pick (eqb kind 3) true (eqb kind 4))
-
--- a start
-unfoldable pub isStart : ℕ → Bool
-isStart kind = pick (eqb kind 1) true (eqb kind 7)
-
--- an end with a start
-unfoldable pub isBoundary : ℕ → Bool
-isBoundary kind = pick (eqb kind 2) true (eqb kind 5)
-
--- "A start needs nothing open, an end or boundary an open range": whether a kind is out of turn; opened is 0 where no range is open
-unfoldable pub outOfTurn : ℕ → ℕ → Bool
-outOfTurn kind opened = pick (isStart kind) (ltb 0 opened) (eqb opened 0)
+use Rattle.turns.specs.Turns.{badKind, outOfTurn}
 
 -- the flags of a marker, 02 alone: 4 at them
 unfoldable pub markerFlagsAt : Reader ℕ

@@ -13,7 +13,9 @@ use Rattle.cell.specs.declared.fields.Deletion.{Deletion}
 use Rattle.clustering.specs.Prefixes.{prefixAt}
 use Rattle.clustering.specs.Sizes.{sizesAt}
 use Rattle.clustering.specs.declared.prefixes.Prefix.{Prefix}
-use Rattle.marker.specs.Kinds.{isStart, isBoundary, markerFlagsAt, kindAt, countAt}
+use Rattle.turns.specs.Turns.{sameDeletion}
+use Rattle.marker.specs.Kinds.{markerFlagsAt, kindAt, countAt}
+use Rattle.turns.specs.Turns.{isStart, isBoundary}
 use Rattle.marker.specs.declared.markers.Deletions.{Deletions}
 use Rattle.marker.specs.declared.markers.Marker.{Marker}
 use Rattle.marker.specs.declared.markers.Bounded.{Bounded}
@@ -23,10 +25,6 @@ use Rattle.marker.specs.declared.markers.Found.the-variants.{Read, Refus
 
 abbrev pub marker : ℕ → ℕ → ℕ → Prefix → Deletions → Marker
 marker start kind count prefix deletions = record { start = start; kind = kind; count = count; prefix = prefix; deletions = deletions }
-
--- the same mark and local time
-unfoldable pub sameDeletion : Deletion → Deletion → Bool
-sameDeletion d e = pick (eqb (d .mark) (e .mark)) (eqb (d .local) (e .local)) false
 
 -- the first deletion: "an end or boundary an open range with that same deletion"; unlike is 6 at its mark
 unfoldable pub firstAt : Bases → ℕ → Deletion → Reader Deletion

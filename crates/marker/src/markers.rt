@@ -4,7 +4,8 @@ ghost use Prim.Native.Nat.{_+_, _*_, _≤_};
 ghost use lib.ListN.{length};
 ghost use Rattle.cell.specs.Fields.{saidDeleted};
 ghost use Rattle.clustering.specs.Prefixes.{widthsAt};
-ghost use Rattle.marker.specs.Markers.{sameDeletion, firstAt, secondAt, deletionsAt, bodyAt, boundAt, markerAt, openAfter, saidBounded, saidFound};
+ghost use Rattle.marker.specs.Markers.{firstAt, secondAt, deletionsAt, bodyAt, boundAt, markerAt, openAfter, saidBounded, saidFound};
+ghost use Rattle.turns.specs.Turns.{sameDeletion};
 use crate::kinds;
 use cell::fields;
 use cell::fields::Deleted;
@@ -44,26 +45,16 @@ pub enum Found {
     Refused { fault: Fault, place: usize },
 }
 
-// Whether mark and local time are the same.
-fn is_same_deletion(d: Deletion, e: Deletion) -> bool
-    ensures { λ r. ⌜ r ≡ sameDeletion d e ⌝ }
-{
-    if d.mark == e.mark {
-        return d.local == e.local;
-    }
-    false
-}
-
 // The first deletion: that of the open range, but for a start.
 fn read_first(s: &[u8], at: usize, end: usize, b: Bases, kind: u64, opened: Deletion) -> Deleted
     ensures { λ r. ⌜ saidDeleted r ≡ firstAt b kind opened (now (s .entry)) at end ⌝ }
 {
     match fields::read_deletion(s, at, end, b) {
         Deleted::By { deletion, next } => {
-            if kinds::is_start(kind) {
+            if turns::is_start(kind) {
                 return Deleted::By { deletion, next };
             }
-            if is_same_deletion(opened, deletion) {
+            if turns::is_same_deletion(opened, deletion) {
                 return Deleted::By { deletion, next };
             }
             Deleted::Refused {
@@ -79,7 +70,7 @@ fn read_first(s: &[u8], at: usize, end: usize, b: Bases, kind: u64, opened: Dele
 fn read_second(s: &[u8], at: usize, end: usize, b: Bases, kind: u64) -> Deleted
     ensures { λ r. ⌜ saidDeleted r ≡ secondAt b kind (now (s .entry)) at end ⌝ }
 {
-    if kinds::is_boundary(kind) {
+    if turns::is_boundary(kind) {
         return fields::read_deletion(s, at, end, b);
     }
     Deleted::By {
@@ -212,7 +203,7 @@ pub fn read_marker(
 pub fn open_after(kind: u64, d: Deletions) -> Deletion
     ensures { λ r. ⌜ r ≡ openAfter kind d ⌝ }
 {
-    if kinds::is_start(kind) {
+    if turns::is_start(kind) {
         return d.first;
     }
     d.second

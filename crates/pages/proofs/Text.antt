@@ -11,7 +11,7 @@ use Rattle.schema.specs.declared.records.Counts.{Counts}
 use Rattle.walk.specs.Steps.{Answer, Handed, stepIn}
 use Rattle.walk.specs.Tables.{Table, tableAt}
 use Rattle.walk.specs.Walks.{remaining, add, follow, walkFrom}
-use Rattle.walk.specs.declared.items.Item.{Item}
+use Rattle.items.specs.declared.Item.{Item}
 use Rattle.walk.specs.declared.cursors.Cursor.{Cursor}
 use Rattle.walk.proofs.Moves.{step-moves, walk-unfolds}
 use Rattle.walk.proofs.Schemas.{table-taken}

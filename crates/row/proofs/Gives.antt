@@ -17,7 +17,8 @@ use Rattle.cell.proofs.Ranges.{Goes, Moves, goes-none, goes-goes, moves-on, mov
 use Rattle.cell.proofs.Gives.{TimesIn}
 use Rattle.clustering.specs.Prefixes.{prefixAt}
 use Rattle.clustering.proofs.Gives.{PrefixOk, Sized, prefix-gives, sizes-give}
-use Rattle.row.specs.Flags.{badRowFlags, rowFlagsAt, mayStand, extendedOf, extendedAt}
+use Rattle.row.specs.Flags.{badRowFlags, rowFlagsAt, extendedOf, extendedAt}
+use Rattle.turns.specs.Turns.{mayStand}
 use Rattle.row.specs.Bodies.{times, body, expiryAt, livenessAt, rowDeletionAt, columns, presentAt, contentAt, bodyAt}
 use Rattle.row.specs.Rows.{restAt, rowAt}
 use Rattle.row.specs.declared.bodies.Body.{Body}

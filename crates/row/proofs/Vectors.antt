@@ -11,7 +11,8 @@ use Rattle.cell.specs.Fields.{byteAt, inAt, deletionAt, variableAt, valueAt, de
 use Rattle.wire.specs.declared.times.Bases.{Bases}
 use Rattle.clustering.specs.Prefixes.{badHeader, headerAt, clusteringAt, valuesAt, skipped, prefixAt}
 use Rattle.clustering.specs.Sizes.{sizesAt}
-use Rattle.row.specs.Flags.{badRowFlags, rowFlagsAt, mayStand, extendedOf, extendedAt}
+use Rattle.row.specs.Flags.{badRowFlags, rowFlagsAt, extendedOf, extendedAt}
+use Rattle.turns.specs.Turns.{mayStand}
 use Rattle.row.specs.Bodies.{times, body, expiryAt, livenessAt, rowDeletionAt, columns, presentAt, contentAt, bodyAt}
 use Rattle.row.specs.Rows.{row, restAt, rowAt}
 

@@ -6,6 +6,7 @@ use Rattle.wire.specs.Choose.{pick}
 use Rattle.wire.specs.Got.{Got, got, bad, on, Reader}
 use Rattle.wire.specs.declared.refusal.Fault.the-variants.{BadFlags, OutOfTurn, NotCarried}
 use Rattle.cell.specs.Fields.{byteAt}
+use Rattle.turns.specs.Turns.{mayStand}
 
 -- "Row flags: 01 end (alone), 02 marker (alone), 04 timestamp, 08 TTL (only with 04), 10 deletion, 20 all columns, 40 complex deletion
 -- (bad here), 80 extended byte follows": whether f are not those of a row
@@ -18,10 +19,6 @@ badRowFlags f =
 -- the flags: 4 at them
 unfoldable pub rowFlagsAt : Reader ℕ
 rowFlagsAt s at end = on (byteAt s at end) (λ f n. pick (badRowFlags f) (bad BadFlags at) (got f n))
-
--- "A static row stands first and only where static columns exist": first is 1 right behind the partition's header, else 0
-unfoldable pub mayStand : ℕ → ℕ → Bool
-mayStand first statics = pick (ltb 0 first) (ltb 0 statics) false
 
 -- "Extended: 00 nothing, 01 static, 02 and 80 shadowable (7), others bad": what the byte x that stands at place at, before n, gives
 unfoldable pub extendedOf : ℕ → ℕ → ℕ → ℕ → ℕ → Got ℕ

@@ -34,6 +34,16 @@ rowAt b ws statics regulars first s at end =
     (restAt b [] statics at f 1 s m end)
     (restAt b ws regulars at f 0 s m end)))
 
+-- how many clustering columns a row with the extended byte x has, of how many columns it has cells, and its own mark: 1 for a static one
+unfoldable pub clusteringIn : ℕ → ℕ → ℕ
+clusteringIn x count = pick (eqb x 1) 0 count
+
+unfoldable pub cellsIn : ℕ → ℕ → ℕ → ℕ
+cellsIn x statics regulars = pick (eqb x 1) statics regulars
+
+unfoldable pub staticIn : ℕ → ℕ
+staticIn x = pick (eqb x 1) 1 0
+
 -- what the code's answer says
 unfoldable pub saidFound : Found → Got Row
 saidFound (Read r n) = got r n

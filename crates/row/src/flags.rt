@@ -1,7 +1,8 @@
 // The flags of a row and its extended byte.
 ghost use mathlib.Core.Path.{_≡_};
 ghost use Rattle.wire.specs.Got.{saidNum};
-ghost use Rattle.row.specs.Flags.{badRowFlags, rowFlagsAt, mayStand, extendedOf, extendedAt};
+ghost use Rattle.row.specs.Flags.{badRowFlags, rowFlagsAt, extendedOf, extendedAt};
+ghost use Rattle.turns.specs.Turns.{mayStand};
 use cell::fields;
 use wire::number::Num;
 use wire::refusal::Fault;
@@ -37,16 +38,6 @@ pub(crate) fn read_row_flags(s: &[u8], at: usize, end: usize) -> Num
     }
 }
 
-// Whether a static row may stand here: `first` is 1 right behind the partition's header, else 0.
-fn may_stand(first: u8, statics: u64) -> bool
-    ensures { λ r. ⌜ r ≡ mayStand first statics ⌝ }
-{
-    if 0 < first {
-        return 0 < statics;
-    }
-    false
-}
-
 // What the extended byte x says, which stands at at, before next.
 fn extended_of(first: u8, statics: u64, x: u64, at: usize, next: usize) -> Num
     ensures { λ r. ⌜ saidNum r ≡ extendedOf first statics x at next ⌝ }
@@ -55,7 +46,7 @@ fn extended_of(first: u8, statics: u64, x: u64, at: usize, next: usize) -> Num
         return Num::Number { value: 0, next };
     }
     if x == 1 {
-        if may_stand(first, statics) {
+        if turns::may_stand(first, statics) {
             return Num::Number { value: 1, next };
         }
         return Num::Refused {

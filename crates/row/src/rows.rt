@@ -3,7 +3,7 @@ ghost use mathlib.Core.Path.{_≡_};
 ghost use Prim.Native.Nat.{_+_, _*_, _≤_};
 ghost use lib.ListN.{length};
 ghost use Rattle.clustering.specs.Prefixes.{widthsAt};
-ghost use Rattle.row.specs.Rows.{restAt, rowAt, saidFound};
+ghost use Rattle.row.specs.Rows.{restAt, clusteringIn, cellsIn, staticIn, rowAt, saidFound};
 use crate::bodies;
 use crate::bodies::Bodied;
 use crate::bodies::Body;
@@ -65,6 +65,36 @@ fn read_rest(
     }
 }
 
+// How many clustering columns a row with the extended byte x has.
+fn clustering_of(x: u64, count: u64) -> u64
+    ensures { λ r. ⌜ r ≡ clusteringIn x count ⌝ }
+{
+    if x == 1 {
+        return 0;
+    }
+    count
+}
+
+// How many columns a row may have cells of.
+fn cells_of(x: u64, statics: u64, regulars: u64) -> u64
+    ensures { λ r. ⌜ r ≡ cellsIn x statics regulars ⌝ }
+{
+    if x == 1 {
+        return statics;
+    }
+    regulars
+}
+
+// 1 for a static row, else 0.
+fn static_of(x: u64) -> u64
+    ensures { λ r. ⌜ r ≡ staticIn x ⌝ }
+{
+    if x == 1 {
+        return 1;
+    }
+    0
+}
+
 // The row at at, before end: `count` clustering columns, whose records stand behind the key's, and so many static and regular columns;
 // `first` is 1 right behind the partition's header, else 0.
 // Internal: for callers that have checked the schema.
@@ -95,10 +125,10 @@ pub fn read_row(
                 value: x,
                 next: after,
             } => {
-                if x == 1 {
-                    return read_rest(s, after, end, schema, 0, b, statics, at, f, 1);
-                }
-                read_rest(s, after, end, schema, count, b, regulars, at, f, 0)
+                let values = clustering_of(x, count);
+                let cells = cells_of(x, statics, regulars);
+                let extended = static_of(x);
+                read_rest(s, after, end, schema, values, b, cells, at, f, extended)
             }
             Num::Refused { fault, place } => Found::Refused { fault, place },
         },

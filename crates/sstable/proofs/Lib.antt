@@ -1,5 +1,3 @@
-pub mod Words
 pub mod Varints
 pub mod Scylla
 pub mod Statistics
-pub mod Data

@@ -9,7 +9,7 @@ use Rattle.scylla.specs.declared.component.Components.{Components}
 use Rattle.scylla.specs.declared.Answer.{Answer}
 use Rattle.scylla.specs.declared.Answer.the-variants.{Taken, Refused}
 use Rattle.sstable.specs.Scylla.{componentWords, scyllaRead}
-use Rattle.sstable.proofs.Words.{words-taken, words-refused, mapped-taken, mapped-refused}
+use Rattle.answers.proofs.Words.{words-taken, words-refused, mapped-taken, mapped-refused}
 
 module _ (s : List ℕ) (r : Answer) (e : saidScylla r ≡ scyllaOf s) where
   pub scylla-is : (c : Components) → r ≡ Taken c → 0 ∷ 0 ∷ 0 ∷ componentWords c ≡ scyllaRead s

@@ -14,9 +14,9 @@ use Rattle.statistics.specs.Statistics.{statisticsOf, saidAnswer, Reads}
 use Rattle.statistics.specs.declared.Table.{Table}
 use Rattle.statistics.specs.declared.Answer.{Answer}
 use Rattle.statistics.specs.declared.Answer.the-variants.{Read, Refused}
-use Rattle.sstable.specs.Words.{words, mapped}
+use Rattle.answers.specs.Words.{words, mapped}
 use Rattle.sstable.specs.Statistics.{tableWords, statisticsWords, StatisticsRead, countWords, schemaWords, checkedWords}
-use Rattle.sstable.proofs.Words.{words-taken, words-refused, mapped-taken, mapped-refused}
+use Rattle.answers.proofs.Words.{words-taken, words-refused, mapped-taken, mapped-refused}
 
 -- ---- Statistics
 module _ (s d d′ : List ℕ) (r : Answer) (h : Reads s d d′ r) where

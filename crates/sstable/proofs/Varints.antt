@@ -16,9 +16,9 @@ use Rattle.wire.specs.declared.refusal.Slice.the-variants.{Data, Output}
 use Rattle.wire.specs.declared.number.Num.{Num}
 use Rattle.wire.specs.declared.number.Num.the-variants.{Number, Refused}
 use Rattle.wire.proofs.Choose.{pick-yes, pick-no}
-use Rattle.sstable.specs.Words.{words}
+use Rattle.answers.specs.Words.{words}
 use Rattle.sstable.specs.Varints.{numberIn, varintRead, varintPut, varintStored, VarintPut}
-use Rattle.sstable.proofs.Words.{words-taken, words-refused}
+use Rattle.answers.proofs.Words.{words-taken, words-refused}
 
 -- ---- reading
 module _ (s : List ℕ) (at end : ℕ) where

@@ -3,7 +3,7 @@ use Prim.Native.Nat.{ℕ}
 use mathlib.Core.List.{List, [], _∷_}
 use Rattle.scylla.specs.Components.{scyllaOf}
 use Rattle.scylla.specs.declared.component.Components.{Components}
-use Rattle.sstable.specs.Words.{words, mapped}
+use Rattle.answers.specs.Words.{words, mapped}
 
 -- feature bits, run identifier, and offset and length of the bodies of tags 1 to 4
 abbrev pub componentWords : Components → List ℕ

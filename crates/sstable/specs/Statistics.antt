@@ -9,7 +9,7 @@ use Rattle.schema.specs.declared.records.Counts.{Counts}
 use Rattle.schema.specs.declared.records.Checked.{Checked}
 use Rattle.statistics.specs.Statistics.{statisticsOf, schemaIn}
 use Rattle.statistics.specs.declared.Table.{Table}
-use Rattle.sstable.specs.Words.{words, mapped}
+use Rattle.answers.specs.Words.{words, mapped}
 
 -- the bases, the partitioner's name, the chance's bits, and how many columns there are
 abbrev pub tableWords : Table → List ℕ

@@ -12,7 +12,7 @@ use Rattle.wire.specs.Varints.{varintAt, shortest}
 use Rattle.wire.specs.declared.refusal.Fault.the-variants.{OverLimit, NoRoom}
 use Rattle.wire.specs.declared.refusal.Slice.{Slice}
 use Rattle.wire.specs.declared.refusal.Slice.the-variants.{Data, Output}
-use Rattle.sstable.specs.Words.{words}
+use Rattle.answers.specs.Words.{words}
 
 -- a number that was read, and the place after it; or the refusal in the slice z
 unfoldable pub numberIn : Slice → Got ℕ → Outcome (List ℕ)

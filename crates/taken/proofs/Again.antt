@@ -22,14 +22,14 @@ use Rattle.cell.specs.declared.cells.Cell.{Cell}
 use Rattle.cell.proofs.Ranges.{DeletionIn}
 use Rattle.cell.proofs.Gives.{TimesIn}
 use Rattle.clustering.proofs.Gives.{ValuesIn}
-use Rattle.row.specs.Flags.{mayStand}
+use Rattle.turns.specs.Turns.{mayStand}
 use Rattle.row.specs.declared.rows.Row.{Row}
 use Rattle.row.proofs.Gives.{RestOk, RowOk}
 use Rattle.marker.specs.declared.markers.Deletions.{Deletions}
 use Rattle.marker.specs.declared.markers.Marker.{Marker}
 use Rattle.partition.proofs.Gives.{partition-gives}
-use Rattle.walk.specs.Items.{partitionItem, rowItem, markerItem, endItem}
-use Rattle.walk.specs.declared.items.Item.{Item}
+use Rattle.items.specs.Items.{partitionItem, rowItem, markerItem, endItem}
+use Rattle.items.specs.declared.Item.{Item}
 use Rattle.contents.specs.Contents.{Widths, Entry, staticEntry, rowEntry, markerEntry, Contents, openBehind, contentsAt, valuesListed, cellsListed, entryListed, entriesListed, partitionListed, listed}
 use Rattle.contents.proofs.Gives.{RowIn, EntryIn, EntriesIn, ContentsIn, AllIn, row-placed, entry-moves, contents-give}
 use Rattle.listing.specs.Records.{recordsOf}

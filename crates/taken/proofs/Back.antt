@@ -17,8 +17,8 @@ use Rattle.cell.specs.declared.cells.Times.{Times}
 use Rattle.cell.specs.declared.cells.Cell.{Cell}
 use Rattle.cell.proofs.Gives.{TimesIn}
 use Rattle.clustering.proofs.Gives.{ValuesIn}
-use Rattle.walk.specs.Items.{valueItem, cellItem}
-use Rattle.walk.specs.declared.items.Item.{Item}
+use Rattle.items.specs.Items.{valueItem, cellItem}
+use Rattle.items.specs.declared.Item.{Item}
 use Rattle.contents.specs.Contents.{valuesListed, cellsListed}
 use Rattle.contents.proofs.Gives.{CellsIn}
 use Rattle.listing.specs.Records.{recordOf, recordsOf}

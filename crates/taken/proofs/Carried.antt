@@ -15,8 +15,8 @@ use Rattle.cell.specs.Fields.{deletion, live}
 use Rattle.cell.specs.declared.fields.Deletion.{Deletion}
 use Rattle.cell.specs.declared.cells.Cell.{Cell}
 use Rattle.marker.specs.declared.markers.Deletions.{Deletions}
-use Rattle.walk.specs.Items.{showsValue}
-use Rattle.walk.specs.declared.items.Item.{Item}
+use Rattle.items.specs.Items.{showsValue}
+use Rattle.items.specs.declared.Item.{Item}
 use Rattle.contents.specs.Contents.{Widths, Entry, Contents, openBehind}
 use Rattle.forms.specs.Views.{CellView, RowView, MarkerView, staticView, rowView, markerView, PartitionView, showValue, showValues, showCell, showCells, showRow, showEntry, showEntries, showPartition, showContents}
 use Rattle.forms.specs.Fits.{openView}

@@ -12,8 +12,8 @@ use Rattle.wire.specs.Store.{shown}
 use Rattle.wire.specs.declared.times.Bases.{Bases}
 use Rattle.wire.proofs.Choose.{pick-yes}
 use Rattle.wire.proofs.RoundTrip.{Reads}
-use Rattle.walk.specs.Items.{showsValue, valueOf}
-use Rattle.walk.specs.declared.items.Item.{Item}
+use Rattle.items.specs.Items.{showsValue, valueOf}
+use Rattle.items.specs.declared.Item.{Item}
 use Rattle.contents.specs.Contents.{Widths, Contents, contentsAt, listed}
 use Rattle.listing.specs.Records.{recordsOf}
 use Rattle.listing.proofs.Loops.{length-recordsOf}
@@ -33,12 +33,12 @@ use Rattle.taken.proofs.Moved.{placed-is, Placed}
 use Rattle.taken.proofs.Carried.{Carried, taken-carried}
 
 -- ---- items one by one
-items-length : (s : List ℕ) (at k : ℕ) → length (itemsFrom s at k) ≡ k
+pub items-length : (s : List ℕ) (at k : ℕ) → length (itemsFrom s at k) ≡ k
 unfolding itemsFrom
 items-length s at zero = refl
 items-length s at (suc k) = ap suc (items-length s (at + 64) k)
 
-shows-length : (s : List ℕ) (l : List Item) → length (showItems s l) ≡ length l
+pub shows-length : (s : List ℕ) (l : List Item) → length (showItems s l) ≡ length l
 shows-length s [] = refl
 shows-length s (i ∷ l) = ap suc (shows-length s l)
 

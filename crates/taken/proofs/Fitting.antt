@@ -19,12 +19,12 @@ use Rattle.cell.specs.declared.fields.Deletion.{Deletion}
 use Rattle.cell.proofs.Ranges.{TimestampIn, LocalIn, DeletionIn, deletion-none}
 use Rattle.cell.proofs.Gives.{TimesIn}
 use Rattle.row.specs.Bodies.{times}
-use Rattle.row.specs.Flags.{mayStand}
-use Rattle.marker.specs.Kinds.{badKind, isStart, isBoundary, outOfTurn}
-use Rattle.marker.specs.Markers.{sameDeletion}
+use Rattle.turns.specs.Turns.{mayStand}
+use Rattle.turns.specs.Turns.{badKind, isStart, isBoundary, outOfTurn}
+use Rattle.turns.specs.Turns.{sameDeletion}
 use Rattle.marker.proofs.Gives.{DeletionsIn}
 use Rattle.partition.proofs.Gives.{DeletedIn}
-use Rattle.walk.specs.declared.items.Item.{Item}
+use Rattle.items.specs.declared.Item.{Item}
 use Rattle.contents.specs.Contents.{Widths, Entry, staticEntry, rowEntry, markerEntry, openBehind}
 use Rattle.forms.specs.Views.{showValue, showValues, showCell, showCells, showEntry, showEntries, showPartition, showContents}
 use Rattle.forms.specs.Fits.{ValueFits, ValuesFit, CellFits, CellsFit, EntryFits, openView, EntriesFit, PartitionFits, AllFit}

@@ -17,17 +17,17 @@ use Rattle.cell.specs.declared.cells.Times.{Times}
 use Rattle.cell.proofs.Ranges.{TimestampIn, LocalIn, DeletionIn}
 use Rattle.cell.proofs.Gives.{TimesIn}
 use Rattle.row.specs.Bodies.{times}
-use Rattle.row.specs.Flags.{mayStand}
+use Rattle.turns.specs.Turns.{mayStand}
 use Rattle.row.specs.declared.rows.Row.{Row}
-use Rattle.marker.specs.Kinds.{badKind, isStart, isBoundary, outOfTurn}
-use Rattle.marker.specs.Markers.{sameDeletion}
+use Rattle.turns.specs.Turns.{badKind, isStart, isBoundary, outOfTurn}
+use Rattle.turns.specs.Turns.{sameDeletion}
 use Rattle.marker.specs.declared.markers.Deletions.{Deletions}
 use Rattle.marker.specs.declared.markers.Marker.{Marker}
 use Rattle.marker.proofs.Gives.{DeletionsIn}
 use Rattle.partition.specs.declared.partitions.Partition.{Partition}
 use Rattle.partition.proofs.Gives.{DeletedIn}
-use Rattle.walk.specs.Items.{item, zeroed, markOf, timeOf, partitionFlags, partitionItem, rowItem, markerItem, endItem}
-use Rattle.walk.specs.declared.items.Item.{Item}
+use Rattle.items.specs.Items.{item, zeroed, markOf, timeOf, partitionFlags, partitionItem, rowItem, markerItem, endItem}
+use Rattle.items.specs.declared.Item.{Item}
 use Rattle.taken.specs.Fields.{hasTime, hasExpiry, hasLocal, hasMark, hasSecond, hasColumn}
 use Rattle.taken.specs.Tests.{badKey, badPartitionFlags, badRowFlags, badPartition, badRow, badStatic, badFirst, badMarker, badEnd}
 use Rattle.taken.specs.Entries.{valueOf, deletionOf, secondOf, timesOf, deletionsOf, baseless}

@@ -11,8 +11,8 @@ use Rattle.wire.specs.Choose.{pick, bind}
 use Rattle.wire.proofs.Choose.{pick-yes, pick-no}
 use Rattle.cell.specs.declared.fields.Deletion.{Deletion}
 use Rattle.cell.specs.declared.fields.Span.{Span}
-use Rattle.walk.specs.Items.{item, zeroed, markOf, timeOf, partitionFlags, cellFlags, partitionItem, rowItem, markerItem, valueItem, cellItem, endItem, showsValue}
-use Rattle.walk.specs.declared.items.Item.{Item}
+use Rattle.items.specs.Items.{item, zeroed, markOf, timeOf, partitionFlags, cellFlags, partitionItem, rowItem, markerItem, valueItem, cellItem, endItem, showsValue}
+use Rattle.items.specs.declared.Item.{Item}
 use Rattle.taken.specs.Fields.{hasTime, hasExpiry, hasLocal, hasMark, hasSecond, hasColumn, stray, strayFirst, strayLast, strayNumbers}
 use Rattle.taken.specs.Tests.{unlike, badPlace, badNowhere, badKey, badValue, badPartitionFlags, badRowFlags, badValueFlags, badCellFlags, badPartition, badRow, badMarker, badClustering, badCellPlace, badCell, badEnd}
 use Rattle.taken.specs.Entries.{valueOf, deletionOf, secondOf, timesOf, cellOf, rowOf, markerOf, partitionOf}

@@ -1,7 +1,7 @@
 -- A record that is taken (Goods), and that what is taken fits the writer's form (Fitting); a listed item's record is read back (Spelled), of
 -- values and cells (Sound), partitions, rows, markers and ends (Heads, Flagging), in turn (Back), all of Data (Again). What a record says is
 -- listed as it stood (Items, Listed), and contents list what they show (Shows, Lying). The writer against the listing (Laws, Schemas, Answers);
--- places aside (Moved, Carried), so that exactly the listed tables are taken (Exactly). Examples (Vectors).
+-- places aside (Moved, Carried), so that exactly the listed tables are taken (Exactly). One entry or partition at a time (Unfolds). Examples (Vectors).
 pub mod Goods
 pub mod Fitting
 pub mod Spelled
@@ -20,4 +20,5 @@ pub mod Answers
 pub mod Moved
 pub mod Carried
 pub mod Exactly
+pub mod Unfolds
 pub mod Vectors

@@ -15,8 +15,8 @@ use Rattle.wire.proofs.Choose.{pick-no}
 use Rattle.wire.proofs.Gives.{Gives, gives-got, gives-bad, gives-on, gives-pick}
 use Rattle.cell.specs.Fields.{live}
 use Rattle.cell.specs.declared.fields.Deletion.{Deletion}
-use Rattle.walk.specs.Items.{showsValue, rowItem, markerItem, endItem}
-use Rattle.walk.specs.declared.items.Item.{Item}
+use Rattle.items.specs.Items.{showsValue, rowItem, markerItem, endItem}
+use Rattle.items.specs.declared.Item.{Item}
 use Rattle.contents.specs.Contents.{Widths, openBehind, valuesListed, cellsListed, entryListed, entriesListed, partitionListed, listed}
 use Rattle.taken.specs.Fields.{itemOf, strayBytes, hasLocal}
 use Rattle.taken.specs.Records.{kindAt}

@@ -18,7 +18,7 @@ use Rattle.cell.specs.declared.fields.Span.{Span}
 use Rattle.cell.specs.declared.cells.Times.{Times}
 use Rattle.cell.specs.declared.cells.Cell.{Cell}
 use Rattle.clustering.proofs.Gives.{ValuesIn}
-use Rattle.walk.specs.declared.items.Item.{Item}
+use Rattle.items.specs.declared.Item.{Item}
 use Rattle.contents.specs.Contents.{Widths, Entry, staticEntry, rowEntry, markerEntry, Contents, openBehind, contentsAt}
 use Rattle.contents.proofs.Gives.{CellsIn, EntryIn, EntriesIn, AllIn, partition-moves, contents-give}
 use Rattle.taken.specs.Fields.{hasTime, hasExpiry, hasLocal}
@@ -119,7 +119,7 @@ module _ (bytes : List ℕ) where
   unfolding badValue
   value-lies w i e = place-short bytes i (not-first (badPlace bytes i) _ e)
 
-  clustering-lies : (column w : ℕ) (i : Item) → badClustering bytes column w i ≡ false → Lies bytes (valueOf i)
+  pub clustering-lies : (column w : ℕ) (i : Item) → badClustering bytes column w i ≡ false → Lies bytes (valueOf i)
   unfolding badClustering
   clustering-lies column w i e =
       let f = not-second (unlike (i .column) column) _ (not-second (badValueFlags (i .flags)) _ (not-second (unlike (i .kind) 5) _ e)) in
@@ -133,13 +133,13 @@ module _ (bytes : List ℕ) where
       let k = not-else (hasLocal i) _ _ f g in
       yes-or-no (ltb 8 (i .flags)) (λ h. nowhere-lies i (not-then (ltb 8 (i .flags)) _ _ k h)) (λ h. value-lies w i (not-else (ltb 8 (i .flags)) _ _ k h)))
 
-  cell-lies : (column w : ℕ) (i : Item) → badCell bytes column w i ≡ false → Lies bytes (cellOf i .value)
+  pub cell-lies : (column w : ℕ) (i : Item) → badCell bytes column w i ≡ false → Lies bytes (cellOf i .value)
   unfolding cellOf
   cell-lies column w i e =
       let h = cell-value-lies column w i e in
       pick-ind (λ (c : Cell). Lies bytes (c .value)) _ _ (hasLocal i) (λ f. omega arith) (λ f. pick-ind (λ (c : Cell). Lies bytes (c .value)) _ _ (hasExpiry i) (λ g. h) (λ g. h))
 
-  key-lies : (i : Item) → badPartition bytes i ≡ false → Lies bytes (valueOf i)
+  pub key-lies : (i : Item) → badPartition bytes i ≡ false → Lies bytes (valueOf i)
   unfolding badPartition badKey
   key-lies i e =
       let f = not-second (badPartitionFlags (i .flags)) _ (not-second (unlike (i .kind) 1) _ e) in

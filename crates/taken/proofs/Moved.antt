@@ -14,8 +14,8 @@ use Rattle.wire.specs.Store.{shown}
 use Rattle.wire.specs.declared.refusal.Fault.{Fault}
 use Rattle.wire.specs.declared.times.Bases.{Bases}
 use Rattle.wire.proofs.RoundTrip.{Reads, reads-got, reads-on, reads-no}
-use Rattle.walk.specs.Items.{item}
-use Rattle.walk.specs.declared.items.Item.{Item}
+use Rattle.items.specs.Items.{item}
+use Rattle.items.specs.declared.Item.{Item}
 use Rattle.forms.specs.Views.{showCell}
 use Rattle.forms.proofs.Fields.{shown-none}
 use Rattle.taken.specs.Fields.{itemOf, strayBytes, hasTime, hasExpiry, hasLocal, hasMark, hasSecond, hasColumn, stray, strayFirst, strayLast, strayNumbers}

@@ -14,8 +14,8 @@ use Rattle.cell.specs.declared.fields.Span.{Span}
 use Rattle.cell.specs.declared.cells.Cell.{Cell}
 use Rattle.row.specs.declared.rows.Row.{Row}
 use Rattle.marker.specs.declared.markers.Marker.{Marker}
-use Rattle.walk.specs.Items.{item, zeroed, markOf, timeOf, partitionFlags, cellFlags, partitionItem, rowItem, markerItem, valueItem, cellItem, endItem, showsValue, valueOf}
-use Rattle.walk.specs.declared.items.Item.{Item}
+use Rattle.items.specs.Items.{item, zeroed, markOf, timeOf, partitionFlags, cellFlags, partitionItem, rowItem, markerItem, valueItem, cellItem, endItem, showsValue, valueOf}
+use Rattle.items.specs.declared.Item.{Item}
 use Rattle.contents.specs.Contents.{Entry, staticEntry, rowEntry, markerEntry, Contents, valuesListed, cellsListed, entryListed, entriesListed, partitionListed, listed}
 use Rattle.forms.specs.Views.{CellView, RowView, MarkerView, EntryView, staticView, rowView, markerView, PartitionView, showValue, showValues, showCell, showCells, showRow, showMarker, showEntry, showEntries, showPartition, showContents}
 use Rattle.forms.proofs.Fields.{shown-none}

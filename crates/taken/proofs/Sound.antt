@@ -15,8 +15,8 @@ use Rattle.cell.specs.declared.fields.Span.{Span}
 use Rattle.cell.specs.declared.cells.Cell.{Cell}
 use Rattle.cell.proofs.Ranges.{ValueIn}
 use Rattle.cell.proofs.Gives.{CellIn}
-use Rattle.walk.specs.Items.{item, zeroed, partitionFlags, cellFlags, valueItem, cellItem}
-use Rattle.walk.specs.declared.items.Item.{Item}
+use Rattle.items.specs.Items.{item, zeroed, partitionFlags, cellFlags, valueItem, cellItem}
+use Rattle.items.specs.declared.Item.{Item}
 use Rattle.taken.specs.Fields.{hasTime, hasExpiry, hasLocal, hasMark, hasSecond, hasColumn, stray, strayFirst, strayLast, strayNumbers}
 use Rattle.taken.specs.Tests.{unlike, badPlace, badNowhere, badWidth, badValue, badValueFlags, badCellFlags, badClustering, badCellPlace, badCell}
 use Rattle.taken.specs.Entries.{valueOf, cellOf}

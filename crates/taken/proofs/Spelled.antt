@@ -15,7 +15,7 @@ use Rattle.wire.proofs.BigEndian.{spelled-back}
 use Rattle.wire.proofs.RoundTrip.{Reads, reads-got, reads-no, reads-to}
 use Rattle.wire.proofs.Stands.{Stands, stands-left, stands-right, stands-byte}
 use Rattle.cell.proofs.Ranges.{In}
-use Rattle.walk.specs.declared.items.Item.{Item}
+use Rattle.items.specs.declared.Item.{Item}
 use Rattle.listing.specs.Records.{signedBytes, kindBytes, columnBytes, headBytes, localBytes, timeBytes, secondBytes, placeBytes, tailBytes, recordOf}
 use Rattle.listing.proofs.Loops.{length-recordOf}
 use Rattle.taken.specs.Fields.{signedAt, itemOf, strayBytes, hasTime, hasExpiry, hasLocal, hasMark, hasSecond, strayNumbers}

@@ -18,12 +18,13 @@ use Rattle.typetable.specs.Table.{lineOf as typeLine}
 use Rattle.schema.specs.Records.{mostOf, roleAt, lineAt, markAt, widthAt, nameAt, nameLenAt, zerosAt, isLineOf, isNameOf, isKindOf, given, countOf, isPassed, isFirst, inTurn, withOne, recordsAt, schemaAt, schemaOf}
 use Rattle.schema.specs.Records.{recordAt as schemaRecordAt}
 use Rattle.clustering.specs.Prefixes.{widthsAt}
-use Rattle.row.specs.Flags.{mayStand}
-use Rattle.marker.specs.Kinds.{badKind, isStart, isBoundary, outOfTurn}
-use Rattle.marker.specs.Markers.{sameDeletion, openAfter}
-use Rattle.walk.specs.Items.{item, zeroed}
+use Rattle.turns.specs.Turns.{mayStand}
+use Rattle.turns.specs.Turns.{badKind, isStart, isBoundary, outOfTurn}
+use Rattle.marker.specs.Markers.{openAfter}
+use Rattle.turns.specs.Turns.{sameDeletion}
+use Rattle.items.specs.Items.{item, zeroed}
 use Rattle.walk.specs.Tables.{badBases, after}
-use Rattle.walk.specs.declared.items.Item.{Item}
+use Rattle.items.specs.declared.Item.{Item}
 use Rattle.contents.specs.Contents.{Widths, widthsOf}
 use Rattle.listing.specs.Records.{signedBytes, kindBytes, columnBytes, headBytes, localBytes, timeBytes, secondBytes, placeBytes, tailBytes, recordOf, recordsOf}
 use Rattle.forms.specs.Cells.{sameTime, sameExpiry, noValue, kindBits, cellFlags, timestampBytes, ttlBytes, expiryBytes, lengthBytes, fieldBytes, valueBytes, lastBytes, cellBytes}

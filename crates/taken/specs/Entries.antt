@@ -23,7 +23,7 @@ use Rattle.marker.specs.Markers.{marker}
 use Rattle.marker.specs.declared.markers.Deletions.{Deletions}
 use Rattle.marker.specs.declared.markers.Marker.{Marker}
 use Rattle.partition.specs.declared.partitions.Partition.{Partition}
-use Rattle.walk.specs.declared.items.Item.{Item}
+use Rattle.items.specs.declared.Item.{Item}
 use Rattle.contents.specs.Contents.{Widths, Entry, staticEntry, rowEntry, markerEntry, Contents, openBehind}
 use Rattle.taken.specs.Fields.{hasTime, hasExpiry, hasLocal, hasSecond}
 use Rattle.taken.specs.Records.{recordAt, kindAt}

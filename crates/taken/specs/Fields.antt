@@ -8,9 +8,9 @@ use lib.ListN.{getD}
 use Rattle.wire.specs.Choose.{pick}
 use Rattle.wire.specs.BigEndian.{bigEndian}
 use Rattle.wire.specs.Times.{biased}
-use Rattle.marker.specs.Kinds.{isBoundary}
-use Rattle.walk.specs.Items.{item, zeroed}
-use Rattle.walk.specs.declared.items.Item.{Item}
+use Rattle.turns.specs.Turns.{isBoundary}
+use Rattle.items.specs.Items.{item, zeroed}
+use Rattle.items.specs.declared.Item.{Item}
 
 -- a timestamp or mark
 unfoldable pub signedAt : List ℕ → ℕ → ℕ

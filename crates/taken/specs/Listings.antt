@@ -5,8 +5,8 @@ use Prim.Native.Nat.{ℕ, zero, suc, _+_, _*_, _/_, _≤_}
 use mathlib.Core.List.{List, [], _∷_}
 use lib.ListN.{length}
 use Rattle.wire.specs.Choose.{pick}
-use Rattle.walk.specs.Items.{item, showsValue, valueOf}
-use Rattle.walk.specs.declared.items.Item.{Item}
+use Rattle.items.specs.Items.{item, showsValue, valueOf}
+use Rattle.items.specs.declared.Item.{Item}
 use Rattle.taken.specs.Fields.{itemOf, strayBytes}
 use Rattle.taken.specs.Tests.{badPlace, badNowhere}
 

@@ -8,7 +8,7 @@ use Rattle.wire.specs.Choose.{pick, bind}
 use Rattle.wire.specs.Got.{Got, got, bad, Reader}
 use Rattle.wire.specs.declared.refusal.Fault.the-variants.{OutOfRange, BadRecord}
 use Rattle.wire.specs.declared.times.Bases.{Bases}
-use Rattle.walk.specs.declared.items.Item.{Item}
+use Rattle.items.specs.declared.Item.{Item}
 use Rattle.taken.specs.Fields.{itemOf, strayBytes, hasTime, hasExpiry, hasLocal, hasMark, hasSecond, strayNumbers}
 
 -- "a number out of range or below its base", if it is used

@@ -8,10 +8,10 @@ use lib.ListN.{length}
 use Rattle.wire.specs.Choose.{pick}
 use Rattle.cell.specs.Fields.{deletion}
 use Rattle.cell.specs.declared.fields.Deletion.{Deletion}
-use Rattle.row.specs.Flags.{mayStand}
-use Rattle.marker.specs.Kinds.{badKind, isStart, outOfTurn}
-use Rattle.marker.specs.Markers.{sameDeletion}
-use Rattle.walk.specs.declared.items.Item.{Item}
+use Rattle.turns.specs.Turns.{mayStand}
+use Rattle.turns.specs.Turns.{badKind, isStart, outOfTurn}
+use Rattle.turns.specs.Turns.{sameDeletion}
+use Rattle.items.specs.declared.Item.{Item}
 use Rattle.taken.specs.Fields.{hasLocal}
 
 -- x is not y

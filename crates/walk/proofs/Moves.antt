@@ -29,7 +29,7 @@ use Rattle.walk.specs.Cursors.{badValues, badPrefix, badCells, atItems, 
 use Rattle.walk.specs.Steps.{Handed, Answer, handed, partitionStep, endStep, markerStep, rowHanded, rowStep, itemStep, valueStep, cellStep, cellsStep, partitionAnswer, itemAnswer, valuesAnswer, prefixAnswer, cellsAnswer, staticsAnswer, stepIn}
 use Rattle.walk.specs.Tables.{Table}
 use Rattle.walk.specs.Walks.{reachIn, leftIn, remaining, follow, add, walkIn, walkFrom}
-use Rattle.walk.specs.declared.items.Item.{Item}
+use Rattle.items.specs.declared.Item.{Item}
 use Rattle.walk.specs.declared.cursors.Phase.{Phase}
 use Rattle.walk.specs.declared.cursors.Phase.the-variants.{Partition, First, Items, Values, Prefix, Statics, Cells}
 use Rattle.walk.specs.declared.cursors.Cursor.{Cursor}

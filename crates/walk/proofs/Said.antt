@@ -8,6 +8,9 @@ use Rattle.wire.specs.declared.refusal.Refusal.{Refusal}
 use Rattle.wire.specs.declared.refusal.Slice.{Slice}
 use Rattle.wire.specs.declared.refusal.Slice.the-variants.{Data}
 use Rattle.wire.specs.declared.times.Bases.{Bases}
+use mathlib.Core.Bool.{Bool, true, false}
+use native.Mathlib.Omega.{arith}
+use Rattle.wire.specs.Choose.{pick, bind}
 use Rattle.wire.proofs.Choose.{told}
 use mathlib.Core.List.{List}
 use mathlib.Core.Option.{none, some}
@@ -15,9 +18,9 @@ use Rattle.schema.specs.Records.{saidChecked}
 use Rattle.schema.specs.declared.records.Counts.{Counts}
 use Rattle.schema.specs.declared.records.Checked.{Checked}
 use Rattle.schema.specs.declared.records.Checked.the-variants.{Counted, Refused as checked-refused}
-use Rattle.walk.specs.Steps.{Handed, Answer, hands, handed, partitionAnswer, itemAnswer, valuesAnswer, prefixAnswer, staticsAnswer, cellsAnswer, stepIn, saidMoved, saidStep}
+use Rattle.walk.specs.Steps.{Handed, Answer, hands, handed, partitionAnswer, itemAnswer, valuesAnswer, prefixAnswer, staticsAnswer, cellsAnswer, isStatic, isOfCells, columnsAt, columnsOf, lacking, columnsAnswer, stepIn, saidMoved, saidStep}
 use Rattle.walk.specs.Tables.{after}
-use Rattle.walk.specs.declared.items.Item.{Item}
+use Rattle.items.specs.declared.Item.{Item}
 use Rattle.walk.specs.declared.cursors.Cursor.{Cursor}
 use Rattle.walk.specs.declared.cursors.Phase.{Phase}
 use Rattle.walk.specs.declared.cursors.Phase.the-variants.{Partition, First, Items, Values, Prefix, Statics, Cells}
@@ -72,6 +75,23 @@ unfolding after saidChecked saidStep
 after-refused g r x y e d = rw (← e, d) refl
 
 -- ---- a step goes by its phase
+never : {A : Type 0} → _≡_ {A = Bool} false true → A
+never e = let z : _≡_ {A = ℕ} 0 1 = ap number e in absurd (omega arith)
+  where
+    number : Bool → ℕ
+    number false = 0
+    number true = 1
+
+columns-step : (p : Phase) (c : List ℕ) (k : Counts) (b : Bases) (s : List ℕ) (x : Cursor) → isOfCells p ≡ true → columnsAnswer (isStatic p) c k b s x ≡ stepIn p c k b s x
+unfolding stepIn staticsAnswer columnsAnswer lacking columnsAt columnsOf isStatic isOfCells pick bind
+columns-step Partition c k b s x e = never e
+columns-step First c k b s x e = never e
+columns-step Items c k b s x e = never e
+columns-step Values c k b s x e = never e
+columns-step Prefix c k b s x e = never e
+columns-step Statics c k b s x e = refl
+columns-step Cells c k b s x e = refl
+
 module _ (q : Answer) (p : Phase) (c : List ℕ) (k : Counts) (b : Bases) (s : List ℕ) (x : Cursor) where
   pub in-partition : p ≡ Partition → q ≡ partitionAnswer s x → q ≡ stepIn p c k b s x
   unfolding stepIn
@@ -93,14 +113,25 @@ module _ (q : Answer) (p : Phase) (c : List ℕ) (k : Counts) (b : Bases) (s : L
   unfolding stepIn
   in-prefix e f = rw e f
 
-  pub in-statics : p ≡ Statics → q ≡ staticsAnswer c k b s x (16 + 16 * k .clustering) (k .statics) → q ≡ stepIn p c k b s x
-  unfolding stepIn
-  in-statics e f = rw e f
+  -- the cells of both kinds of rows at once
+  pub in-columns : (t r : Bool) → t ≡ isStatic p → r ≡ isOfCells p → r ≡ true → q ≡ columnsAnswer t c k b s x → q ≡ stepIn p c k b s x
+  in-columns t r e f g h = h ∙ ap (λ (u : Bool). columnsAnswer u c k b s x) e ∙ columns-step p c k b s x (sym f ∙ g)
 
-  pub in-cells : p ≡ Cells → q ≡ cellsAnswer c k b s x (16 + 16 * (k .clustering + k .statics)) (k .regulars) → q ≡ stepIn p c k b s x
-  unfolding stepIn
-  in-cells e f = rw e f
+  pub not-statics : (r : Bool) → r ≡ isOfCells p → r ≡ false → p ≡ Statics → q ≡ stepIn p c k b s x
+  unfolding isOfCells
+  not-statics r e f g = never (sym f ∙ e ∙ ap isOfCells g)
 
-pub ruleset phases = (in-partition, in-first, in-items, in-values, in-prefix, in-statics, in-cells)
+  pub not-cells : (r : Bool) → r ≡ isOfCells p → r ≡ false → p ≡ Cells → q ≡ stepIn p c k b s x
+  unfolding isOfCells
+  not-cells r e f g = never (sym f ∙ e ∙ ap isOfCells g)
+
+-- what a phase is
+pub static-as : (p v : Phase) (t : Bool) → p ≡ v → t ≡ isStatic v → t ≡ isStatic p
+static-as p v t e f = rw e f
+
+pub of-cells-as : (p v : Phase) (t : Bool) → p ≡ v → t ≡ isOfCells v → t ≡ isOfCells p
+of-cells-as p v t e f = rw e f
+
+pub ruleset phases = (in-partition, in-first, in-items, in-values, in-prefix, in-columns, not-statics, not-cells)
 
 pub ruleset answers = (told, moved-is, moved-bad, step-is, step-done, step-bad, handed-next, handed-bad, after-counted, after-refused)

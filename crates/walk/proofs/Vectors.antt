@@ -18,7 +18,8 @@ use Rattle.cell.specs.Cells.{badFlags, flagsAt, lastAt, expiringAt, contentAt, 
 use Rattle.cell.specs.declared.cells.Times.{Times}
 use Rattle.clustering.specs.Prefixes.{badHeader, headerAt, clusteringAt, valuesAt, skipped, prefixAt, widthsAt}
 use Rattle.clustering.specs.Sizes.{sizesAt}
-use Rattle.row.specs.Flags.{badRowFlags, rowFlagsAt, mayStand, extendedOf, extendedAt}
+use Rattle.row.specs.Flags.{badRowFlags, rowFlagsAt, extendedOf, extendedAt}
+use Rattle.turns.specs.Turns.{mayStand}
 use Rattle.row.specs.Bodies.{times, expiryAt, livenessAt, rowDeletionAt, columns, presentAt, bodyAt}
 use Rattle.row.specs.Bodies.{contentAt as rowContentAt}
 use Rattle.row.specs.Rows.{restAt, rowAt}
@@ -26,7 +27,7 @@ use Rattle.wire.specs.Times.{biased}
 use Rattle.partition.specs.Partitions.{keyOf, deletedBy, deletedAt, partitionAt}
 use Rattle.schema.specs.Records.{schemaAt, schemaOf}
 use Rattle.schema.specs.declared.records.Counts.{Counts}
-use Rattle.walk.specs.Items.{item, zeroed, markOf, timeOf, partitionFlags, cellFlags, partitionItem, rowItem, valueItem, cellItem, endItem}
+use Rattle.items.specs.Items.{item, zeroed, markOf, timeOf, partitionFlags, cellFlags, partitionItem, rowItem, valueItem, cellItem, endItem}
 use Rattle.walk.specs.Cursors.{hand, cursor, none, outside, badColumn, badValues, badCells, atItems, atCells, behindValue, behindCell, behindRow}
 use Rattle.walk.specs.Steps.{Answer, badState, done, partitionStep, endStep, rowHanded, rowStep, itemStep, valueStep, cellStep, cellsStep, handed, partitionAnswer, itemAnswer, valuesAnswer, cellsAnswer, staticsAnswer, stepIn, stepAt}
 use Rattle.walk.specs.Tables.{badBases, after, tableAt}

@@ -23,9 +23,9 @@ use Rattle.marker.specs.Markers.{markerAt}
 use Rattle.partition.specs.Partitions.{partitionAt}
 use Rattle.schema.specs.declared.records.Counts.{Counts}
 use Rattle.walk.specs.Tables.{after, tableAt}
-use Rattle.walk.specs.Items.{partitionItem, rowItem, markerItem, valueItem, cellItem, endItem}
+use Rattle.items.specs.Items.{partitionItem, rowItem, markerItem, valueItem, cellItem, endItem}
 use Rattle.walk.specs.Cursors.{badValues, badPrefix, badCells, atItems, atCells, behindValue, behindCell, behindMarker, behindRow}
-use Rattle.walk.specs.declared.items.Item.{Item}
+use Rattle.items.specs.declared.Item.{Item}
 use Rattle.walk.specs.declared.cursors.Phase.{Phase}
 use Rattle.walk.specs.declared.cursors.Phase.the-variants.{Partition, First, Items, Values, Prefix, Statics, Cells}
 use Rattle.walk.specs.declared.cursors.Cursor.{Cursor}
@@ -157,6 +157,38 @@ stepIn Values c k b s x = valuesAnswer c k s x
 stepIn Prefix c k b s x = prefixAnswer c k s x
 stepIn Statics c k b s x = staticsAnswer c k b s x (16 + 16 * k .clustering) (k .statics)
 stepIn Cells c k b s x = cellsAnswer c k b s x (16 + 16 * (k .clustering + k .statics)) (k .regulars)
+
+-- ---- the cells of both kinds of rows at once, as the code goes through them: t where the row is static
+unfoldable pub isStatic : Phase → Bool
+isStatic Partition = false
+isStatic First = false
+isStatic Items = false
+isStatic Values = false
+isStatic Prefix = false
+isStatic Statics = true
+isStatic Cells = false
+
+unfoldable pub isOfCells : Phase → Bool
+isOfCells Partition = false
+isOfCells First = false
+isOfCells Items = false
+isOfCells Values = false
+isOfCells Prefix = false
+isOfCells Statics = true
+isOfCells Cells = true
+
+-- where the record of the first column stands, how many there are, and whether a static row is in hand where no column is static
+unfoldable pub columnsAt : Bool → Counts → ℕ
+columnsAt t k = pick t (16 + 16 * k .clustering) (16 + 16 * (k .clustering + k .statics))
+
+unfoldable pub columnsOf : Bool → Counts → ℕ
+columnsOf t k = pick t (k .statics) (k .regulars)
+
+unfoldable pub lacking : Bool → Counts → Bool
+lacking t k = pick t (eqb (k .statics) 0) false
+
+unfoldable pub columnsAnswer : Bool → List ℕ → Counts → Bases → List ℕ → Cursor → Answer
+columnsAnswer t c k b s x = pick (lacking t k) badState (bind (columnsAt t k) (λ base. bind (columnsOf t k) (λ n. cellsAnswer c k b s x base n)))
 
 -- one step: of the cursor x, in a table of the schema c and the bases b, through the Data s
 unfoldable pub stepAt : List ℕ → Bases → Cursor → List ℕ → Answer

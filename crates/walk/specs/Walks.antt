@@ -9,7 +9,7 @@ use Rattle.cell.specs.Fields.{live}
 use Rattle.schema.specs.declared.records.Counts.{Counts}
 use Rattle.walk.specs.Cursors.{atItems}
 use Rattle.walk.specs.Steps.{Answer, stepIn}
-use Rattle.walk.specs.declared.items.Item.{Item}
+use Rattle.items.specs.declared.Item.{Item}
 use Rattle.walk.specs.declared.cursors.Phase.{Phase}
 use Rattle.walk.specs.declared.cursors.Phase.the-variants.{Partition, First, Items, Values, Prefix, Statics, Cells}
 use Rattle.walk.specs.declared.cursors.Cursor.{Cursor}

@@ -1,5 +1,4 @@
 // The walk through Data: a cursor, and its step.
-pub mod items; // items.rt: what a step hands out
 pub mod cursors; // cursors.rt: the cursor's state, and which states are refused
 pub mod steps;
 pub mod tables; // steps.rt: one step

@@ -3,15 +3,13 @@ ghost use mathlib.Core.Path.{_≡_};
 ghost use Prim.Native.Nat.{_+_, _*_, _≤_, _<_};
 ghost use lib.ListN.{length};
 ghost use Rattle.row.specs.Bodies.{columns};
-ghost use Rattle.walk.specs.Steps.{partitionStep, endStep, markerStep, rowHanded, rowStep, itemStep, valueStep, cellStep, cellsStep, handed, partitionAnswer, itemAnswer, valuesAnswer, prefixAnswer, cellsAnswer, staticsAnswer, stepIn, stepAt, saidMoved, saidStep};
+ghost use Rattle.walk.specs.Steps.{partitionStep, endStep, markerStep, rowHanded, rowStep, itemStep, valueStep, cellStep, cellsStep, handed, partitionAnswer, itemAnswer, valuesAnswer, prefixAnswer, cellsAnswer, isStatic, isOfCells, columnsAt, columnsOf, lacking, columnsAnswer, stepIn, stepAt, saidMoved, saidStep};
 ghost use Rattle.walk.specs.Tables.{Table};
 ghost use Rattle.walk.specs.Walks.{start};
 use crate::cursors;
 use crate::cursors::Cursor;
 use crate::cursors::Hand;
 use crate::cursors::Phase;
-use crate::items;
-use crate::items::Item;
 use crate::tables;
 use cell::cells;
 use cell::cells::Times;
@@ -20,6 +18,7 @@ use cell::fields::Deletion;
 use cell::fields::Part;
 use clustering::prefixes;
 use clustering::prefixes::Prefix;
+use items::Item;
 use marker::markers;
 use partition::partitions;
 use row::rows;
@@ -336,18 +335,81 @@ fn step_cells(c: &[u8], k: Counts, b: Bases, s: &[u8], x: Cursor, base: usize, n
     hand_out(read_cells(c, k, b, s, x, base, n))
 }
 
-// In the cells of a static row, in a table with n static columns.
-fn step_statics(c: &[u8], k: Counts, b: Bases, s: &[u8], x: Cursor, base: usize, n: u64) -> Step
-    requires { ⌜ (16 + 16 * k .clustering ≤ length (now c)) × (k .statics ≤ 63) × (k .regulars ≤ 63) × (base + 16 * n ≤ length (now c)) × (n ≤ 63) ⌝ }
-    ensures { λ r. ⌜ saidStep r ≡ staticsAnswer (now (c .entry)) k b (now (s .entry)) x base n ⌝ }
+// Whether the phase is that of a static row's cells.
+fn is_static(phase: Phase) -> bool
+    ensures { λ r. ⌜ r ≡ isStatic phase ⌝ }
 {
-    if n == 0 {
+    match phase {
+        Phase::Partition => false,
+        Phase::First => false,
+        Phase::Items => false,
+        Phase::Values => false,
+        Phase::Prefix => false,
+        Phase::Statics => true,
+        Phase::Cells => false,
+    }
+}
+
+// Whether the phase is that of a row's cells.
+fn is_of_cells(phase: Phase) -> bool
+    ensures { λ r. ⌜ r ≡ isOfCells phase ⌝ }
+{
+    match phase {
+        Phase::Partition => false,
+        Phase::First => false,
+        Phase::Items => false,
+        Phase::Values => false,
+        Phase::Prefix => false,
+        Phase::Statics => true,
+        Phase::Cells => true,
+    }
+}
+
+// Where the record of the first static column stands, or that of the first regular one.
+fn columns_at(fixed: bool, k: Counts) -> usize
+    requires { ⌜ (k .clustering ≤ 32) × (k .statics ≤ 63) ⌝ }
+    ensures { λ r. ⌜ r ≡ columnsAt fixed k ⌝ }
+{
+    if fixed {
+        return (16 + 16 * k.clustering) as usize;
+    }
+    (16 + 16 * (k.clustering + k.statics)) as usize
+}
+
+// How many static columns there are, or regular ones.
+fn columns_of(fixed: bool, k: Counts) -> u64
+    ensures { λ r. ⌜ r ≡ columnsOf fixed k ⌝ }
+{
+    if fixed {
+        return k.statics;
+    }
+    k.regulars
+}
+
+// Whether a static row is in hand, in a table without static columns.
+fn is_lacking(fixed: bool, k: Counts) -> bool
+    ensures { λ r. ⌜ r ≡ lacking fixed k ⌝ }
+{
+    if fixed {
+        return k.statics == 0;
+    }
+    false
+}
+
+// In the cells of a static row, or of another: one call for both, so that what it calls stands in the code once.
+fn step_columns(c: &[u8], k: Counts, b: Bases, s: &[u8], fixed: bool, x: Cursor) -> Step
+    requires { ⌜ Table (length (now c)) k ⌝ }
+    ensures { λ r. ⌜ saidStep r ≡ columnsAnswer fixed (now (c .entry)) k b (now (s .entry)) x ⌝ }
+{
+    if is_lacking(fixed, k) {
         return Step::Refused(Refusal {
             fault: Fault::BadRecord,
             slice: Slice::State,
             place: 0,
         });
     }
+    let base = columns_at(fixed, k);
+    let n = columns_of(fixed, k);
     step_cells(c, k, b, s, x, base, n)
 }
 
@@ -358,20 +420,18 @@ pub fn step_in(c: &[u8], k: Counts, b: Bases, s: &[u8], x: Cursor) -> Step
     ensures { λ r. ⌜ saidStep r ≡ stepIn (x .phase) (now (c .entry)) k b (now (s .entry)) x ⌝ }
 {
     let phase = x.phase;
+    if is_of_cells(phase) {
+        return step_columns(c, k, b, s, is_static(phase), x);
+    }
     match phase {
         Phase::Partition => step_partition(s, x),
         Phase::First => step_item(c, k, b, s, 1, x),
         Phase::Items => step_item(c, k, b, s, 0, x),
         Phase::Values => step_values(c, k, s, x),
         Phase::Prefix => step_prefix(c, k, s, x),
-        Phase::Statics => {
-            let base = (16 + 16 * k.clustering) as usize;
-            step_statics(c, k, b, s, x, base, k.statics)
-        }
-        Phase::Cells => {
-            let base = (16 + 16 * (k.clustering + k.statics)) as usize;
-            step_cells(c, k, b, s, x, base, k.regulars)
-        }
+        // Both are answered above.
+        Phase::Statics => Step::Done,
+        Phase::Cells => Step::Done,
     }
 }
 

@@ -2,8 +2,8 @@
 use mathlib.Core.Path.{_≡_}
 use mathlib.Core.Bool.{Bool}
 use Prim.Native.Nat.{ℕ, _+_, _-_, _*_, _/_, _^_, _<_, _≤_}
+use native.Mathlib.Omega.{arith}
 use lib.Dec.{eqb, leb, ltb, eqb→eq, leb→le, ltb→lt}
-use lib.Bits.{bitAnd}
 use lib.Count.{leadingZeros}
 use Rattle.wire.specs.Varints.{leading, low}
 use Rattle.wire.specs.Choose.{pick}
@@ -16,10 +16,6 @@ zeros-leading b h = eqb→eq _ _ (below-at 256 (λ b. eqb (leadingZeros 8 (255 -
 pub leading-le : (b : ℕ) → b < 256 → leading 8 b ≤ 8
 unfolding leading pick
 leading-le b h = leb→le _ _ (below-at 256 (λ b. leb (leading 8 b) 8) tt b h)
-
-pub mask-low : (b : ℕ) → b < 256 → bitAnd b (127 / 2 ^ leading 8 b) ≡ low b
-unfolding leading low pick
-mask-low b h = eqb→eq _ _ (below-at 256 (λ b. eqb (bitAnd b (127 / 2 ^ leading 8 b)) (low b)) tt b h)
 
 -- every varint's value fits 64 bits
 pub low-fits : (b : ℕ) → b < 256 → (low b + 1) * 256 ^ leading 8 b ≤ 2 ^ 64
@@ -39,3 +35,16 @@ low-small b h = eqb→eq _ _ (below-at 128 (λ b. eqb (low b) b) tt b h)
 pub low-lt : (b : ℕ) → b < 256 → low b < 2 ^ (7 - leading 8 b)
 unfolding leading low pick
 low-lt b h = ltb→lt _ _ (below-at 256 (λ b. ltb (low b) (2 ^ (7 - leading 8 b))) tt b h)
+
+-- a byte from 128 on has a marker
+pub leading-more : (b : ℕ) → b < 256 → 128 ≤ b → 0 < leading 8 b
+unfolding leading pick
+leading-more b h k =
+    let e : b - 128 + 128 ≡ b = omega arith in
+    let p : 0 < leading 8 (b - 128 + 128) = ltb→lt _ _ (below-at 128 (λ c. ltb 0 (leading 8 (c + 128))) tt (b - 128) (omega arith)) in
+    rw e at p
+
+-- a byte is its marker and what follows it
+pub marked : (b : ℕ) → b < 256 → b ≡ 256 - 2 ^ (8 - leading 8 b) + low b
+unfolding leading low pick
+marked b h = eqb→eq _ _ (below-at 256 (λ b. eqb b (256 - 2 ^ (8 - leading 8 b) + low b)) tt b h)

@@ -22,6 +22,7 @@ use Rattle.wire.proofs.Choose.{cases, pick-no, bind-self}
 use Rattle.wire.proofs.Finite.{below-at, allBelow, implies}
 use Rattle.wire.proofs.BigEndian.{be-lt, be-bytes, getD-bytesOf, length-bytesOf}
 use Rattle.wire.proofs.Marker.{leading-small, low-small, leading-le, low-lt, low-fits}
+use Rattle.wire.proofs.Swaps.{cut-out}
 use Rattle.wire.proofs.Shortest.{extra-le, extra-fewest, top-lt, length-form, length-shortest}
 use Rattle.wire.proofs.Gives.{Gives, gives-got, gives-bad, gives-pick, gives-bind, gives-is}
 use Rattle.wire.proofs.Said.{num-got}
@@ -41,11 +42,16 @@ unfolding bigEndian
 one-byte s at end h k l =
     rw (add-zero (at + 1)) at (whole s at end 0 _ (getD s at 0) h k (sym (leading-small _ l)) (omega arith) (sym (low-small _ l)) refl)
 
+-- several bytes, cut out of eight
+pub whole-cut : (s : List ℕ) → ((k : ℕ) → getD s k 0 < 256) → (at end n w : ℕ) → end ≤ length s → at < end → 128 ≤ getD s at 0 → n ≡ leading 8 (getD s at 0) → n < end - at
+    → w ≡ bigEndian 0 s (at + n / 8) 8 → got (w * 2 ^ (n % 8) % 2 ^ 64 / 2 ^ (56 - 7 * n)) (at + 1 + n) ≡ varintAt s at end
+whole-cut s b at end n w h k g e l f = whole s at end n (low (getD s at 0)) _ h k e l refl (cut-out s b at n w g e f)
+
 pub cut-off : (s : List ℕ) (at end n : ℕ) → end ≤ length s → at < end → n ≡ leading 8 (getD s at 0) → end - at ≤ n → bad PastEnd at ≡ varintAt s at end
 unfolding varintAt
 cut-off s at end n h k e l = search cases depth 12
 
-pub ruleset varint-cases = (one-byte, cut-off, whole)
+pub ruleset varint-cases = (one-byte, cut-off)
 
 -- ---- what is read: its number fits 64 bits, it ends past its place and not past the end, and takes no fewer bytes than the shortest
 pub record Varint (at end x n : ℕ) : Type 0 where

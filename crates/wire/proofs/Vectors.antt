@@ -8,7 +8,8 @@ use Rattle.wire.specs.Got.{got}
 use Rattle.wire.specs.BigEndian.{bigEndian, bytesOf}
 use Rattle.wire.specs.Varints.{leading, low, varintAt, form, extra, shortest}
 
-abbrev Spells : ℕ → List ℕ → Type 0
+-- the shortest form of x is bs, and bs is read as x
+abbrev pub Spells : ℕ → List ℕ → Type 0
 Spells x bs = (shortest x ≡ bs) × (varintAt bs 0 (length bs) ≡ got x (length bs))
 
 pub vectors : Spells 127 (0x7F ∷ [])

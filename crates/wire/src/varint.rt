@@ -3,7 +3,7 @@ ghost use mathlib.Core.Path.{_≡_};
 ghost use Prim.Native.Nat.{_+_, _-_, _/_, _^_};
 ghost use lib.ListN.{length};
 ghost use Rattle.wire.specs.Got.{saidNum};
-ghost use Rattle.wire.specs.Varints.{leading, low, varintAt, extra, shortest};
+ghost use Rattle.wire.specs.Varints.{leading, varintAt, extra, shortest};
 ghost use Rattle.wire.specs.Store.{Room, Puts, Stores};
 use crate::number;
 use crate::number::Num;
@@ -15,14 +15,6 @@ fn ones(b: u8) -> usize
     ensures { λ r. ⌜ r ≡ leading 8 b ⌝ }
 {
     u8::leading_zeros(255 - b) as usize
-}
-
-// The bits of a varint's first byte b after its marker of n ones.
-fn low_bits(b: u8, n: usize) -> u64
-    requires { ⌜ n ≡ leading 8 b ⌝ }
-    ensures { λ r. ⌜ r ≡ low b ⌝ }
-{
-    (b as u64) & (127u64 >> n)
 }
 
 // The varint at at, before end, of any form.
@@ -56,9 +48,10 @@ pub fn read(s: &[u8], at: usize, end: usize) -> Num
             place: at,
         };
     }
-    let value = number::big_endian(s, at + 1, n, low_bits(b, n));
+    // The eight bytes from the first on, or of nine the last; the marker goes out at the top, what follows the varint below.
+    let w = number::eight(s, at + n / 8);
     Num::Number {
-        value,
+        value: (w << (n % 8)) >> (56 - 7 * n),
         next: at + 1 + n,
     }
 }

@@ -79,6 +79,18 @@ extern "C" {
         out_len: usize,
         answer: *mut [u64; 4],
     );
+    fn sstable_write(
+        schema: *const u8,
+        schema_len: usize,
+        bases: *const [u64; 3],
+        records: *const u8,
+        records_len: usize,
+        bytes: *const u8,
+        bytes_len: usize,
+        out: *mut u8,
+        out_len: usize,
+        answer: *mut [u64; 4],
+    );
 }
 
 /// A schema, bases and Data, as the calls for Data take them: the bases are
@@ -88,6 +100,15 @@ pub struct Table<'a> {
     pub schema: &'a [u8],
     pub bases: &'a [u64; 3],
     pub data: &'a [u8],
+}
+
+/// A schema, bases, records and the bytes beside them, as the writer takes them.
+#[derive(Clone, Copy)]
+pub struct Listed<'a> {
+    pub schema: &'a [u8],
+    pub bases: &'a [u64; 3],
+    pub records: &'a [u8],
+    pub bytes: &'a [u8],
 }
 
 /// Bases as words.
@@ -334,6 +355,35 @@ pub fn list(table: Table, out: &mut [u8]) -> Answer<usize> {
                 bases,
                 data.as_ptr(),
                 data.len(),
+                out.as_mut_ptr(),
+                out.len(),
+                words,
+            )
+        }
+    })?;
+    taken(&words).map(|rest| rest[0] as usize)
+}
+
+/// Writes records as Data into `out`: how many bytes were stored.
+pub fn write(listed: Listed, out: &mut [u8]) -> Answer<usize> {
+    let Listed {
+        schema,
+        bases,
+        records,
+        bytes,
+    } = listed;
+    let words = asked::<4>(|words| {
+        // SAFETY: pointers and lengths are those of slices, the last lent for
+        // writing, and the answer has room for four words.
+        unsafe {
+            sstable_write(
+                schema.as_ptr(),
+                schema.len(),
+                bases,
+                records.as_ptr(),
+                records.len(),
+                bytes.as_ptr(),
+                bytes.len(),
                 out.as_mut_ptr(),
                 out.len(),
                 words,

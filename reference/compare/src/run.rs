@@ -174,6 +174,20 @@ mod tests {
     }
 
     #[test]
+    fn every_outcome_of_the_writer_is_met() {
+        let outcomes = outcomes("write");
+        let wanted = [
+            "ok write",
+            "5 bases",
+            "5 records",
+            "10 records",
+            "10 schema",
+            "13 output",
+        ];
+        assert_eq!(outcomes, wanted.map(String::from).into());
+    }
+
+    #[test]
     fn a_case_depends_on_seed_and_index_alone() {
         for kind in kinds::all() {
             let made: Vec<Case> = (0..50).map(|i| case_of(kind.as_ref(), 3, i)).collect();

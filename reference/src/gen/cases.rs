@@ -190,11 +190,8 @@ fn random_write_case(rng: &mut Rng) -> Case {
     let made = random_table(rng);
     let listed = list_data(&made.stats.schema, made.stats.bases, &made.data);
     let mut records = listed.expect("made well").concat();
-    match rng.below(5) {
-        0 => {}
-        1 if records.len() > 64 => shuffle_records(rng, &mut records),
-        2 if !records.is_empty() => change_field(rng, &mut records),
-        _ => damage(rng, &mut records),
+    if !rng.one_in(5) {
+        damage_records(rng, &mut records);
     }
     let output = if rng.one_in(6) {
         rng.below(40)
@@ -207,6 +204,15 @@ fn random_write_case(rng: &mut Rng) -> Case {
     Case {
         kind: kind::WRITE_RAW,
         blobs,
+    }
+}
+
+/// Damage to a record table: whole records, one field, or any bytes.
+pub fn damage_records(rng: &mut Rng, records: &mut Vec<u8>) {
+    match rng.below(4) {
+        0 if records.len() > 64 => shuffle_records(rng, records),
+        1 if records.len() >= 64 => change_field(rng, records),
+        _ => damage(rng, records),
     }
 }
 

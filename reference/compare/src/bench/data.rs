@@ -1,4 +1,4 @@
-//! Walks and listings of Data.
+//! Walks and listings of Data, and the writer.
 
 use std::hint::black_box;
 use std::time::Instant;
@@ -6,10 +6,10 @@ use std::time::Instant;
 use reference::data::{Bases, Source};
 use reference::schema::Schema;
 use reference::walk::{list_into, walk, State, Step};
-use reference::{gen, read_statistics};
+use reference::{gen, read_statistics, write_data, LIMIT};
 
 use super::ROUNDS;
-use crate::library::{self, Table};
+use crate::library::{self, Listed, Table};
 use crate::Failed;
 
 const SIZE: usize = 60_000_000;
@@ -77,7 +77,36 @@ fn bench_kind(what: &str, partition: usize) -> Result<(), Failed> {
             "{what}: the library lists other records"
         )));
     }
-    race(|| library_steps(table), || reference_steps(&source)).tell(what, "single steps")
+    race(|| library_steps(table), || reference_steps(&source)).tell(what, "single steps")?;
+    bench_writer(what, &made, &out)
+}
+
+/// The records written again; the library's buffer is lent and was written to
+/// before, the reference makes its own.
+fn bench_writer(what: &str, made: &Made, records: &[u8]) -> Result<(), Failed> {
+    let listed = Listed {
+        schema: &made.records,
+        bases: &library::bases_words(made.bases),
+        records,
+        bytes: &made.data,
+    };
+    let mut out = vec![1; made.data.len() + 4096];
+    let mut data = Vec::new();
+    let written = race(
+        || library::write(listed, &mut out).map_or(0, |len| len as u64),
+        || {
+            let written = write_data(&made.records, made.bases, records, &made.data, LIMIT);
+            data = written.unwrap_or_default();
+            data.len() as u64
+        },
+    );
+    written.tell(what, "writing (items are bytes)")?;
+    if out[..data.len()] != data {
+        return Err(Failed::new(format!(
+            "{what}: the library writes other bytes"
+        )));
+    }
+    Ok(())
 }
 
 /// The best time of each, library first, and how many items it had.

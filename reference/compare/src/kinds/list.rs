@@ -102,8 +102,8 @@ fn told(raw: Raw, output: Option<usize>) -> Result<Vec<[u8; LEN]>, Refusal> {
     }
 }
 
-/// The listing of files: what Statistics says of the table first.
-fn of_files(statistics: &[u8], data: &[u8]) -> Answer<Vec<[u8; LEN]>> {
+/// What Statistics says of a table.
+pub fn table_of(statistics: &[u8]) -> Answer<(Vec<u8>, Bases)> {
     let mut words = [0; 9];
     let schema = library::lend(16 * 159, |schema| {
         words = library::statistics_read(statistics, schema)?;
@@ -114,6 +114,12 @@ fn of_files(statistics: &[u8], data: &[u8]) -> Answer<Vec<[u8; LEN]>> {
         local: words[1] as i32,
         ttl: words[2] as i32,
     };
+    Ok((schema, bases))
+}
+
+/// The listing of files: what Statistics says of the table first.
+fn of_files(statistics: &[u8], data: &[u8]) -> Answer<Vec<[u8; LEN]>> {
+    let (schema, bases) = table_of(statistics)?;
     let source = Raw {
         schema: &schema,
         bases,

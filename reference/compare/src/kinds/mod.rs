@@ -20,6 +20,7 @@ mod tables;
 mod type_strings;
 mod varint;
 mod walk;
+mod write;
 
 /// One kind of calls.
 pub trait Kind {
@@ -80,6 +81,7 @@ pub fn all() -> Vec<Box<dyn Kind>> {
         Box::new(list::List),
         Box::new(walk::Walk),
         Box::new(step::Step),
+        Box::new(write::Write),
     ]
 }
 

@@ -1,6 +1,7 @@
 use Rattle.wire.proofs.Choose.{cases}
 use Rattle.wire.proofs.Said.{reading}
 use Rattle.cell.proofs.Said.{answers}
+use Rattle.cell.proofs.Parts.{parts}
 use Rattle.cell.specs.Cells.{contentAt}
 use borrow.Author.Needs.{needs}
 use Rattle.cell.proofs.cells.read_content.Statement.{statement}
@@ -23,19 +24,23 @@ returns-2 : tie.Need-returns-2
 unfolding contentAt
 returns-2 c = search (reading, answers, cases) depth 12
 
-read-expiring-requires : tie.Need-read-expiring-requires
-read-expiring-requires c κs = search needs
+read-lasting-requires : tie.Need-read-lasting-requires
+read-lasting-requires c κs = search needs
 
-returns-3 : tie.Need-returns-3
-unfolding contentAt
-returns-3 c = search (reading, answers, cases) depth 12
+enum-known-kind : tie.Need-enum-known-kind
+enum-known-kind c = search needs
 
 read-last-requires : tie.Need-read-last-requires
 read-last-requires c κs = search needs
 
+enum-known-fault-2 : tie.Need-enum-known-fault-2
+enum-known-fault-2 c = search needs
+
+returns-3 : tie.Need-returns-3
+returns-3 c = search (parts, reading, answers, cases) depth 12
+
 returns-4 : tie.Need-returns-4
-unfolding contentAt
-returns-4 c = search (reading, answers, cases) depth 12
+returns-4 c = search (parts, reading, answers, cases) depth 12
 
 pub read-content-spec : {M : Type 1} → statement M
 read-content-spec =
@@ -46,7 +51,9 @@ read-content-spec =
     returns
     enum-known-fault
     returns-2
-    read-expiring-requires
-    returns-3
+    read-lasting-requires
+    enum-known-kind
     read-last-requires
+    enum-known-fault-2
+    returns-3
     returns-4)

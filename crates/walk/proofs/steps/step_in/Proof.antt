@@ -4,6 +4,18 @@ use borrow.Author.Needs.{needs}
 use Rattle.walk.proofs.steps.step_in.Statement.{statement}
 use Rattle.walk.proofs.steps.step_in.Tie as tie
 
+is-of-cells-requires : tie.Need-is-of-cells-requires
+is-of-cells-requires c κs = search needs
+
+is-static-requires : tie.Need-is-static-requires
+is-static-requires c κs = search needs
+
+step-columns-requires : tie.Need-step-columns-requires
+step-columns-requires c κs = search (tables, needs)
+
+returns : tie.Need-returns
+returns c = search phases
+
 enum-told : tie.Need-enum-told
 enum-told c = search needs
 
@@ -37,32 +49,8 @@ step-prefix-requires c κs = search (tables, needs)
 enum-told-6 : tie.Need-enum-told-6
 enum-told-6 c = search needs
 
-mul-base : tie.Need-mul-base
-mul-base c = search needs
-
-add-base : tie.Need-add-base
-add-base c = search needs
-
-step-statics-requires : tie.Need-step-statics-requires
-step-statics-requires c κs = search (tables, needs)
-
 enum-told-7 : tie.Need-enum-told-7
 enum-told-7 c = search needs
-
-add-base-2 : tie.Need-add-base-2
-add-base-2 c = search needs
-
-mul-base-2 : tie.Need-mul-base-2
-mul-base-2 c = search needs
-
-add-base-3 : tie.Need-add-base-3
-add-base-3 c = search needs
-
-step-cells-requires : tie.Need-step-cells-requires
-step-cells-requires c κs = search (tables, needs)
-
-returns : tie.Need-returns
-returns c = search phases
 
 returns-2 : tie.Need-returns-2
 returns-2 c = search phases
@@ -82,10 +70,17 @@ returns-6 c = search phases
 returns-7 : tie.Need-returns-7
 returns-7 c = search phases
 
+returns-8 : tie.Need-returns-8
+returns-8 c = search phases
+
 pub step-in-spec : {M : Type 1} → statement M
 step-in-spec =
     tie.close
     (tie.spec
+    is-of-cells-requires
+    is-static-requires
+    step-columns-requires
+    returns
     enum-told
     step-partition-requires
     enum-told-2
@@ -97,18 +92,11 @@ step-in-spec =
     enum-told-5
     step-prefix-requires
     enum-told-6
-    mul-base
-    add-base
-    step-statics-requires
     enum-told-7
-    add-base-2
-    mul-base-2
-    add-base-3
-    step-cells-requires
-    returns
     returns-2
     returns-3
     returns-4
     returns-5
     returns-6
-    returns-7)
+    returns-7
+    returns-8)

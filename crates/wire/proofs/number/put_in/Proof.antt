@@ -1,68 +1,61 @@
-use Prim.Native.Nat.{_-_}
-use Rattle.wire.specs.BigEndian.{bytesOf}
-use Rattle.wire.proofs.Puts.{Storing, stores}
-use Rattle.wire.proofs.BigEndian.{length-bytesOf, byte-is}
+use Rattle.wire.proofs.Swaps.{widths}
 use borrow.Author.Needs.{needs}
 use Rattle.wire.proofs.number.put_in.Statement.{statement}
 use Rattle.wire.proofs.number.put_in.Tie as tie
 
-abbrev Inv-loop : tie.InvT-loop
-Inv-loop d₀ at n x i₀ d i = Storing (bytesOf x n) d₀ d at i
+put-eight-requires : tie.Need-put-eight-requires
+put-eight-requires c κs = search (widths, needs)
 
-abbrev μ-loop : tie.MeasureT-loop
-μ-loop d₀ at n x i₀ d i = n - i
+same-length : tie.Need-same-length
+same-length c = search needs
 
-loop-holds : tie.Need-loop-holds Inv-loop μ-loop
-loop-holds c = search (length-bytesOf, byte-is, stores, needs)
+returns : tie.Need-returns
+returns c = search (widths, needs)
 
-sub-byte-of : tie.Need-sub-byte-of Inv-loop μ-loop
-sub-byte-of c = search (length-bytesOf, byte-is, stores, needs)
+swapped-four-requires : tie.Need-swapped-four-requires
+swapped-four-requires c κs = search needs
 
-sub-byte-of-2 : tie.Need-sub-byte-of-2 Inv-loop μ-loop
-sub-byte-of-2 c = search (length-bytesOf, byte-is, stores, needs)
+put-low-requires : tie.Need-put-low-requires
+put-low-requires c κs = search (widths, needs)
 
-byte-of-requires : tie.Need-byte-of-requires Inv-loop μ-loop
-byte-of-requires c κs = search (length-bytesOf, byte-is, stores, needs)
+same-length-2 : tie.Need-same-length-2
+same-length-2 c = search needs
 
-add-d : tie.Need-add-d Inv-loop μ-loop
-add-d c = search (length-bytesOf, byte-is, stores, needs)
+returns-2 : tie.Need-returns-2
+returns-2 c = search (widths, needs)
 
-slice-write-d : tie.Need-slice-write-d Inv-loop μ-loop
-slice-write-d c = search (length-bytesOf, byte-is, stores, needs)
+put-one-requires : tie.Need-put-one-requires
+put-one-requires c κs = search (widths, needs)
 
-add-i : tie.Need-add-i Inv-loop μ-loop
-add-i c = search (length-bytesOf, byte-is, stores, needs)
+same-length-3 : tie.Need-same-length-3
+same-length-3 c = search needs
 
-loop-less : tie.Need-loop-less Inv-loop μ-loop
-loop-less c = search (length-bytesOf, byte-is, stores, needs)
+returns-3 : tie.Need-returns-3
+returns-3 c = search (widths, needs)
 
-loop-again : tie.Need-loop-again Inv-loop μ-loop
-loop-again c = search (length-bytesOf, byte-is, stores, needs)
+put-each-requires : tie.Need-put-each-requires
+put-each-requires c κs = search needs
 
-add-result : tie.Need-add-result Inv-loop μ-loop
-add-result c = search (length-bytesOf, byte-is, stores, needs)
+same-length-4 : tie.Need-same-length-4
+same-length-4 c = search needs
 
-same-length : tie.Need-same-length Inv-loop μ-loop
-same-length c = search (length-bytesOf, byte-is, stores, needs)
-
-returns : tie.Need-returns Inv-loop μ-loop
-returns c = search (length-bytesOf, byte-is, stores, needs)
+returns-4 : tie.Need-returns-4
+returns-4 c = search needs
 
 pub put-in-spec : {M : Type 1} → statement M
 put-in-spec =
     tie.close
     (tie.spec
-    Inv-loop
-    μ-loop
-    loop-holds
-    sub-byte-of
-    sub-byte-of-2
-    byte-of-requires
-    add-d
-    slice-write-d
-    add-i
-    loop-less
-    loop-again
-    add-result
+    put-eight-requires
     same-length
-    returns)
+    returns
+    swapped-four-requires
+    put-low-requires
+    same-length-2
+    returns-2
+    put-one-requires
+    same-length-3
+    returns-3
+    put-each-requires
+    same-length-4
+    returns-4)

@@ -1,8 +1,9 @@
 use native.Mathlib.Omega.{arith}
-use Rattle.wire.proofs.Marker.{low-fits}
-use Rattle.wire.proofs.Said.{reading}
+use Rattle.wire.proofs.Said.{reading, num-is}
 use Rattle.wire.proofs.Choose.{cases}
-use Rattle.wire.proofs.Varints.{varint-cases}
+use Rattle.wire.proofs.Varints.{varint-cases, whole-cut}
+use Rattle.wire.proofs.Marker.{leading-le}
+use Prim.Native.Nat.{_≤_}
 use Rattle.wire.specs.Varints.{varintAt}
 use borrow.Author.Needs.{needs}
 use Rattle.wire.proofs.varint.read.Statement.{statement}
@@ -37,25 +38,39 @@ sub-if4 c = search needs
 returns-4 : tie.Need-returns-4
 returns-4 c = search (reading, cases, varint-cases, needs) depth 12
 
-add-big-endian : tie.Need-add-big-endian
-add-big-endian c = search needs
+add-eight : tie.Need-add-eight
+add-eight c = search needs
 
-low-bits-requires : tie.Need-low-bits-requires
-low-bits-requires c κs = search needs
+eight-requires : tie.Need-eight-requires
+eight-requires c κs = search needs
 
-big-endian-requires : tie.Need-big-endian-requires
-big-endian-requires c κs =
+shl-t18 : tie.Need-shl-t18
+shl-t18 c = search needs
+
+few : (c : tie.After-eight) → c .before .before .ones .result ≤ 8
+few c =
     let at = c .before .before .before .before .before .before .before .before .args .at in
-    (omega arith, rw (c .low-bits .ensures, c .before .before .ones .ensures) (low-fits _ (c .before .before .before .before .shared-slice-known2 .given at .fits)))
+    rw (c .before .before .ones .ensures) (leading-le _ (c .before .before .before .before .shared-slice-known2 .given at .fits))
 
-add-t7 : tie.Need-add-t7
-add-t7 c = search needs
+mul-t16 : tie.Need-mul-t16
+mul-t16 c = omega (arith, few c)
 
-add-t17 : tie.Need-add-t17
-add-t17 c = search needs
+sub-t19 : tie.Need-sub-t19
+sub-t19 c = omega (arith, few c)
+
+shr-t21 : tie.Need-shr-t21
+shr-t21 c = search needs
+
+add-t22 : tie.Need-add-t22
+add-t22 c = search needs
+
+add-t23 : tie.Need-add-t23
+add-t23 c = search needs
 
 returns-5 : tie.Need-returns-5
-returns-5 c = search (reading, cases, varint-cases, needs) depth 12
+returns-5 c =
+    num-is _ _ _
+    (whole-cut _ (λ k. c .before .before .before .before .shared-slice-known2 .given k .fits) _ _ _ _ (omega arith) (omega arith) (omega arith) (c .before .before .ones .ensures) (omega arith) (c .eight .ensures))
 
 pub read-spec : {M : Type 1} → statement M
 read-spec =
@@ -70,9 +85,12 @@ read-spec =
     ones-requires
     sub-if4
     returns-4
-    add-big-endian
-    low-bits-requires
-    big-endian-requires
-    add-t7
-    add-t17
+    add-eight
+    eight-requires
+    shl-t18
+    mul-t16
+    sub-t19
+    shr-t21
+    add-t22
+    add-t23
     returns-5)

@@ -1,0 +1,1 @@
+// The words of an answer of the C interface: definitions and laws alone, no function.

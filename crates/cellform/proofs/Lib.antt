@@ -1,0 +1,2 @@
+-- The sizes of cells and values against their bytes.
+pub mod Sizes

@@ -1,0 +1,2 @@
+-- The cases of the writer's answer.
+pub mod Answers

@@ -1,0 +1,10 @@
+use Rattle.wire.proofs.Choose.{cases}
+use Rattle.schema.proofs.Said.{answers}
+use Rattle.writer.proofs.writes.over.Statement.{statement}
+use Rattle.writer.proofs.writes.over.Tie as tie
+
+returns : tie.Need-returns
+returns c = search (answers, cases) depth 12
+
+pub over-spec : {M : Type 1} → statement M
+over-spec = tie.close (tie.spec returns)
