@@ -248,89 +248,71 @@ fn placeless(raw: &[u8; LEN], bytes: &[u8]) -> (Record, Vec<u8>) {
     (record, shown)
 }
 
-/// Slices at and over the limit: schema, records, bytes, output, then bases.
+/// A call at the limit: what is tested, what is lent, and the answer.
+struct AtLimit<'a> {
+    what: &'static str,
+    schema: &'a [u8],
+    records: &'a [u8],
+    bytes: &'a [u8],
+    output: usize,
+    bases: [u64; 3],
+    reference: &'static str,
+}
+
+impl AtLimit<'_> {
+    fn run(&self, out: &mut [u8]) -> Limit {
+        let listed = Listed {
+            schema: self.schema,
+            bases: &self.bases,
+            records: self.records,
+            bytes: self.bytes,
+        };
+        let written = library::write(listed, &mut out[..self.output]);
+        Limit {
+            what: self.what,
+            library: line(written.map(|len| format!("{len} bytes"))),
+            reference: self.reference.into(),
+        }
+    }
+}
+
+/// Slices at and over the limit: schema, records, bytes, output, then bases;
+/// each call is like the one before it but for what that was refused for.
 fn over_limit() -> Vec<Limit> {
     let over = vec![0; LIMIT + 1];
     let mut out = vec![0; LIMIT + 1];
     let mut key = [0; 16];
     key[..4].copy_from_slice(&[0, 33, 0, 255]);
-    let bad = [0, 0, u64::MAX];
-    let sound = [0; 3];
-    let none: &[u8] = &[];
-    let most = &over[..LIMIT];
-    let cases: [(&'static str, &[u8], &[u8], &[u8], usize, [u64; 3], &str); 8] = [
-        (
-            "schema",
-            &over,
-            &over,
-            &over,
-            LIMIT + 1,
-            bad,
-            "refused 1 schema 0",
-        ),
-        (
-            "records",
-            &key,
-            &over,
-            &over,
-            LIMIT + 1,
-            bad,
-            "refused 1 records 0",
-        ),
-        (
-            "bytes",
-            &key,
-            most,
-            &over,
-            LIMIT + 1,
-            bad,
-            "refused 1 bytes 0",
-        ),
-        (
-            "output",
-            &key,
-            most,
-            most,
-            LIMIT + 1,
-            bad,
-            "refused 1 output 0",
-        ),
-        ("bases", &key, most, most, LIMIT, bad, "refused 5 bases 0"),
-        (
-            "schema's record",
-            none,
-            most,
-            most,
-            LIMIT,
-            sound,
-            "refused 10 schema 0",
-        ),
-        (
-            "first record",
-            &key,
-            most,
-            most,
-            LIMIT,
-            sound,
-            "refused 10 records 0",
-        ),
-        ("nothing", &key, none, most, LIMIT, sound, "0 bytes"),
-    ];
-    cases
-        .into_iter()
-        .map(|(what, schema, records, bytes, len, bases, reference)| {
-            let listed = Listed {
-                schema,
-                bases: &bases,
-                records,
-                bytes,
-            };
-            let written = library::write(listed, &mut out[..len]);
-            Limit {
-                what,
-                library: line(written.map(|len| format!("{len} bytes"))),
-                reference: reference.into(),
-            }
-        })
-        .collect()
+    let mut call = AtLimit {
+        what: "schema",
+        schema: &over,
+        records: &over,
+        bytes: &over,
+        output: LIMIT + 1,
+        bases: [0, 0, u64::MAX],
+        reference: "refused 1 schema 0",
+    };
+    let mut limits = vec![call.run(&mut out)];
+    (call.what, call.reference) = ("records", "refused 1 records 0");
+    call.schema = &key;
+    limits.push(call.run(&mut out));
+    (call.what, call.reference) = ("bytes", "refused 1 bytes 0");
+    call.records = &over[..LIMIT];
+    limits.push(call.run(&mut out));
+    (call.what, call.reference) = ("output", "refused 1 output 0");
+    call.bytes = &over[..LIMIT];
+    limits.push(call.run(&mut out));
+    (call.what, call.reference) = ("bases", "refused 5 bases 0");
+    call.output = LIMIT;
+    limits.push(call.run(&mut out));
+    (call.what, call.reference) = ("first record", "refused 10 records 0");
+    call.bases = [0; 3];
+    limits.push(call.run(&mut out));
+    (call.what, call.reference) = ("nothing", "0 bytes");
+    call.records = &[];
+    limits.push(call.run(&mut out));
+    (call.what, call.reference) = ("schema's record", "refused 10 schema 0");
+    call.schema = &[];
+    limits.push(call.run(&mut out));
+    limits
 }
