@@ -1,6 +1,10 @@
 //! `compare run`: cases at random through the library and the reference.
 
 use std::fs;
+use std::num::NonZeroUsize;
+use std::ops::Range;
+use std::sync::atomic::{AtomicU64, Ordering};
+use std::thread;
 
 use reference::batch::answer::hex;
 use reference::batch::{encode_cases, parse, Case};
@@ -25,10 +29,8 @@ pub fn run(plan: &Plan) -> Result<(), Failed> {
     for kind in kinds::all().iter().filter(|kind| chosen(kind.as_ref())) {
         compared += run_limits(kind.as_ref())?;
         let count = plan.count.unwrap_or(kind.count());
-        let mut accepted = 0;
-        for index in plan.from..plan.from.saturating_add(count) {
-            accepted += u64::from(run_one(kind.as_ref(), plan.seed, index)?);
-        }
+        let indices = plan.from..plan.from.saturating_add(count);
+        let accepted = run_cases(kind.as_ref(), plan.seed, indices)?;
         let share = 100.0 * accepted as f64 / count.max(1) as f64;
         println!("{}: {count} cases, {share:.1}% accepted", kind.name());
         compared += count;
@@ -53,14 +55,78 @@ fn case_of(kind: &dyn Kind, seed: u64, index: u64) -> Case {
     kind.generate(&mut Rng::new(mixed ^ (mixed >> 31)))
 }
 
+/// A case at which a run ends.
+struct Stop {
+    index: u64,
+    case: Case,
+    why: Why,
+}
+
+enum Why {
+    Unreadable(String),
+    Different { library: String, reference: String },
+}
+
+/// Compares the cases of the indices, on every processor: how many are
+/// accepted.  What is told does not depend on how many processors there are:
+/// of the cases that differ, it is the one with the least index.
+fn run_cases(kind: &dyn Kind, seed: u64, indices: Range<u64>) -> Result<u64, Failed> {
+    let lanes = thread::available_parallelism().map_or(1, NonZeroUsize::get);
+    let least = &AtomicU64::new(u64::MAX);
+    let ended: Vec<Result<u64, Stop>> = thread::scope(|scope| {
+        let start = |lane| {
+            let own = indices.clone().skip(lane).step_by(lanes);
+            scope.spawn(move || run_lane(kind, seed, own, least))
+        };
+        let started: Vec<_> = (0..lanes).map(start).collect();
+        let ended = started.into_iter().map(|lane| lane.join());
+        ended.map(|lane| lane.expect("no panic")).collect()
+    });
+    let stops = ended.iter().filter_map(|lane| lane.as_ref().err());
+    match stops.min_by_key(|stop| stop.index) {
+        Some(stop) => Err(tell(kind, seed, stop)?),
+        None => Ok(ended.iter().flatten().sum()),
+    }
+}
+
+/// Compares the cases of the indices, which ascend, up to the first that
+/// differs, and none past `least`, the first that differs in any lane so far.
+fn run_lane(
+    kind: &dyn Kind,
+    seed: u64,
+    indices: impl Iterator<Item = u64>,
+    least: &AtomicU64,
+) -> Result<u64, Stop> {
+    let mut accepted = 0;
+    for index in indices {
+        if least.load(Ordering::Relaxed) < index {
+            break;
+        }
+        let is_accepted = run_one(kind, seed, index).inspect_err(|_| {
+            least.fetch_min(index, Ordering::Relaxed);
+        })?;
+        accepted += u64::from(is_accepted);
+    }
+    Ok(accepted)
+}
+
 /// Compares one case; whether it is accepted.
-fn run_one(kind: &dyn Kind, seed: u64, index: u64) -> Result<bool, Failed> {
+fn run_one(kind: &dyn Kind, seed: u64, index: u64) -> Result<bool, Stop> {
     let case = case_of(kind, seed, index);
-    let lent = case.lent();
-    let call = parse(case.kind, &lent).map_err(Failed::new)?;
-    let (library, reference) = match kind.compare(&call) {
-        Compared::Same(accepted) => return Ok(accepted),
-        Compared::Different { library, reference } => (library, reference),
+    let why = match parse(case.kind, &case.lent()).map(|call| kind.compare(&call)) {
+        Ok(Compared::Same(accepted)) => return Ok(accepted),
+        Ok(Compared::Different { library, reference }) => Why::Different { library, reference },
+        Err(text) => Why::Unreadable(text),
+    };
+    Err(Stop { index, case, why })
+}
+
+/// Says where both differ, and stores the case.
+fn tell(kind: &dyn Kind, seed: u64, stop: &Stop) -> Result<Failed, Failed> {
+    let Stop { index, case, why } = stop;
+    let (library, reference) = match why {
+        Why::Unreadable(text) => return Ok(Failed::new(text)),
+        Why::Different { library, reference } => (library, reference),
     };
     println!(
         "difference: kind {}, seed {seed}, case {index}",
@@ -73,7 +139,7 @@ fn run_one(kind: &dyn Kind, seed: u64, index: u64) -> Result<bool, Failed> {
     println!("  library:   {library}");
     println!("  reference: {reference}");
     let path = format!("difference-{seed}-{index}.batch");
-    fs::write(&path, encode_cases(&[case]))?;
+    fs::write(&path, encode_cases(std::slice::from_ref(case)))?;
     println!("written to {path}; to see both answers again:");
     println!("  compare batch {path} --full");
     println!("  reference batch {path} --full");
@@ -82,7 +148,7 @@ fn run_one(kind: &dyn Kind, seed: u64, index: u64) -> Result<bool, Failed> {
         kind.name()
     );
     println!("or: compare run {again}");
-    Err(Failed::told())
+    Ok(Failed::told())
 }
 
 /// Slices at and over the limit, which are too large for a container.

@@ -22,8 +22,8 @@ mod varint;
 mod walk;
 mod write;
 
-/// One kind of calls.
-pub trait Kind {
+/// One kind of calls, which a run makes on every processor at once.
+pub trait Kind: Sync {
     fn name(&self) -> &'static str;
 
     /// How many cases a run makes if it is not told.
