@@ -8,8 +8,8 @@ use borrow.Author.Tests.{ltb-false, leb-false, eqb-true, eqb-false}
 use lib.Dec.{ltb, leb, eqb}
 use lib.ListN.{length, getD}
 use Rattle.wire.specs.Got.{Got}
-use Rattle.wire.specs.BigEndian.{fixedAt}
-use Rattle.wire.specs.Varints.{varintAt, leading}
+use Rattle.fixed.specs.BigEndian.{fixedAt}
+use Rattle.varints.specs.Varints.{varintAt, leading}
 use Rattle.wire.proofs.Gives.{Gives, gives-got, gives-bad, gives-on, gives-pick, gives-bind}
 use Rattle.cell.specs.Fields.{span, deletion, live, byteAt, inAt, deletionAt, variableAt, valueAt}
 use Rattle.wire.specs.declared.times.Bases.{Bases}

@@ -4,8 +4,8 @@ use mathlib.Core.List.{List, [], _∷_}
 use Prim.Native.Nat.{ℕ}
 use Rattle.wire.specs.Choose.{pick, bind}
 use Rattle.wire.specs.Got.{Got, got, bad, on}
-use Rattle.wire.specs.BigEndian.{bigEndian}
-use Rattle.wire.specs.Varints.{leading, low, varintAt}
+use Rattle.fixed.specs.BigEndian.{bigEndian}
+use Rattle.varints.specs.Varints.{leading, low, varintAt}
 use Rattle.wire.specs.declared.refusal.Fault.the-variants.{PastEnd, BadFlags, OutOfRange}
 use Rattle.cell.specs.Fields.{span, byteAt, inAt, deletionAt, deletion, variableAt, valueAt, timestampAt}
 use Rattle.cell.specs.Cells.{cell, badFlags, flagsAt, lastAt, expiringAt, contentAt, timedAt, cellAt}

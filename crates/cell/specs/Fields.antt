@@ -6,7 +6,7 @@ use lib.Dec.{ltb, leb, eqb}
 use lib.ListN.{length, getD}
 use Rattle.wire.specs.Choose.{pick}
 use Rattle.wire.specs.Got.{Got, got, bad, on, Reader, _>>=_, ret}
-use Rattle.wire.specs.Varints.{varintAt}
+use Rattle.varints.specs.Varints.{varintAt}
 use Rattle.wire.specs.declared.refusal.Fault.the-variants.{PastEnd, OutOfRange}
 use Rattle.wire.specs.declared.times.Bases.{Bases}
 use Rattle.cell.specs.declared.fields.Deletion.{Deletion}

@@ -5,7 +5,6 @@ ghost use Rattle.cell.specs.Fields.{byteAt, inAt, timestampAt, localAt, 
 use wire::number::Num;
 use wire::refusal::Fault;
 use wire::times::Bases;
-use wire::varint;
 
 // A deletion: 1 where there is one, else 0; its mark plus 2^63, its local time.
 pub struct Deletion {
@@ -60,7 +59,7 @@ pub fn read_byte(s: &[u8], at: usize, end: usize) -> Num
 fn read_in(s: &[u8], at: usize, end: usize, lo: u64, hi: u64, base: u64) -> Num
     ensures { λ r. ⌜ saidNum r ≡ inAt lo hi base (now (s .entry)) at end ⌝ }
 {
-    match varint::read(s, at, end) {
+    match varints::read(s, at, end) {
         Num::Number { value, next } => {
             if hi < base {
                 return Num::Refused {
@@ -135,7 +134,7 @@ pub fn read_deletion(s: &[u8], at: usize, end: usize, b: Bases) -> Deleted
 fn read_variable(s: &[u8], at: usize, end: usize) -> Part
     ensures { λ r. ⌜ saidPart r ≡ variableAt (now (s .entry)) at end ⌝ }
 {
-    match varint::read(s, at, end) {
+    match varints::read(s, at, end) {
         Num::Number { value, next } => {
             if value == 0 {
                 return Part::Lies {

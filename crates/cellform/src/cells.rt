@@ -3,7 +3,7 @@ ghost use mathlib.Core.Path.{_≡_};
 ghost use Prim.Native.Nat.{_+_, _-_, _≤_};
 ghost use mathlib.Core.List.{_++_};
 ghost use lib.ListN.{length};
-ghost use Rattle.wire.specs.Varints.{shortest};
+ghost use Rattle.varints.specs.Varints.{shortest};
 ghost use Rattle.wire.specs.Store.{Room, Puts, shown};
 ghost use Rattle.forms.specs.Cells.{sameTime, sameExpiry, noValue, kindBits, cellFlags, timestampBytes, ttlBytes, expiryBytes, valueBytes, lastBytes, tailBytes, cellBytes};
 ghost use Rattle.cellform.specs.Sizes.{contentSize, cellSize};

@@ -7,14 +7,13 @@ ghost use Rattle.forms.specs.Cells.{lengthBytes, fieldBytes};
 ghost use Rattle.forms.specs.Clusterings.{clusteringBytes};
 ghost use Rattle.cellform.specs.Sizes.{fieldSize, valueSize};
 use wire::part;
-use wire::varint;
 
 // The length before a value of n bytes.
 fn length_len(width: u8, n: usize) -> u64
     ensures { λ r. ⌜ (r ≡ length (lengthBytes width n)) × (r ≤ 9) ⌝ }
 {
     if width == 255 {
-        return varint::len(n as u64) as u64;
+        return varints::len(n as u64) as u64;
     }
     0
 }
@@ -26,7 +25,7 @@ fn put_length(d: &mut [u8], at: usize, width: u8, n: usize) -> usize
     if width != 255 {
         return at;
     }
-    varint::put_in(d, at, n as u64)
+    varints::put_in(d, at, n as u64)
 }
 
 // How many bytes a value of len bytes has that is not empty.

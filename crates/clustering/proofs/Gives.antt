@@ -9,7 +9,7 @@ use lib.Dec.{ltb, eqb}
 use lib.ListN.{length}
 use Rattle.wire.specs.Choose.{pick}
 use Rattle.wire.specs.Got.{Got, got, bad}
-use Rattle.wire.specs.Varints.{varintAt}
+use Rattle.varints.specs.Varints.{varintAt}
 use Rattle.wire.proofs.Gives.{Gives, gives-got, gives-bad, gives-on, gives-pick}
 use Rattle.wire.proofs.RoundTrip.{Reads}
 use Rattle.cell.specs.declared.fields.Span.{Span}

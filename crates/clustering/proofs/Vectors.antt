@@ -4,8 +4,8 @@ use mathlib.Core.List.{List, [], _∷_}
 use Prim.Native.Nat.{ℕ}
 use Rattle.wire.specs.Choose.{pick, bind}
 use Rattle.wire.specs.Got.{Got, got, bad, on}
-use Rattle.wire.specs.BigEndian.{bigEndian}
-use Rattle.wire.specs.Varints.{leading, low, varintAt}
+use Rattle.fixed.specs.BigEndian.{bigEndian}
+use Rattle.varints.specs.Varints.{leading, low, varintAt}
 use Rattle.wire.specs.declared.refusal.Fault.the-variants.{PastEnd, BadFlags}
 use Rattle.cell.specs.Fields.{span, variableAt, valueAt}
 use Rattle.clustering.specs.Prefixes.{badHeader, headerAt, clusteringAt, valuesAt, skipped, prefixAt, widthsAt}

@@ -6,7 +6,7 @@ use lib.Dec.{ltb, eqb}
 use lib.ListN.{length, getD}
 use Rattle.wire.specs.Choose.{pick}
 use Rattle.wire.specs.Got.{Got, got, bad, on, Reader, _>>=_, ret, when}
-use Rattle.wire.specs.Varints.{varintAt}
+use Rattle.varints.specs.Varints.{varintAt}
 use Rattle.wire.specs.declared.refusal.Fault.the-variants.{BadFlags}
 use Rattle.cell.specs.Fields.{span, valueAt}
 use Rattle.cell.specs.declared.fields.Span.{Span}

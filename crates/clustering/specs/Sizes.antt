@@ -4,7 +4,7 @@ use Prim.Native.Nat.{ℕ, _+_, _-_}
 use lib.Dec.{ltb}
 use Rattle.wire.specs.Choose.{pick}
 use Rattle.wire.specs.Got.{got, bad, on, Reader}
-use Rattle.wire.specs.Varints.{varintAt}
+use Rattle.varints.specs.Varints.{varintAt}
 use Rattle.wire.specs.declared.refusal.Fault.the-variants.{PastEnd}
 
 unfoldable pub sizesAt : Reader ℕ

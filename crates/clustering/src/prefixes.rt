@@ -10,7 +10,6 @@ use cell::fields::Part;
 use cell::fields::Span;
 use wire::number::Num;
 use wire::refusal::Fault;
-use wire::varint;
 
 // The header, and the place of the first value.
 pub struct Prefix {
@@ -53,7 +52,7 @@ fn read_header(s: &[u8], at: usize, end: usize, k: u64) -> Num
     if k == 0 {
         return Num::Number { value: 0, next: at };
     }
-    match varint::read(s, at, end) {
+    match varints::read(s, at, end) {
         Num::Number { value, next } => {
             if bad_header(k, value) {
                 return Num::Refused {

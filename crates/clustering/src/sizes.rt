@@ -4,13 +4,12 @@ ghost use Rattle.wire.specs.Got.{saidNum};
 ghost use Rattle.clustering.specs.Sizes.{sizesAt};
 use wire::number::Num;
 use wire::refusal::Fault;
-use wire::varint;
 
 // The end of the body, from the place behind the previous size.
 pub fn read_sizes(s: &[u8], at: usize, end: usize) -> Num
     ensures { λ r. ⌜ saidNum r ≡ sizesAt (now (s .entry)) at end ⌝ }
 {
-    match varint::read(s, at, end) {
+    match varints::read(s, at, end) {
         Num::Number { value, next } => {
             if ((end - next) as u64) < value {
                 return Num::Refused {
@@ -19,7 +18,7 @@ pub fn read_sizes(s: &[u8], at: usize, end: usize) -> Num
                 };
             }
             let stop = next + value as usize;
-            match varint::read(s, next, stop) {
+            match varints::read(s, next, stop) {
                 Num::Number {
                     value: _,
                     next: after,

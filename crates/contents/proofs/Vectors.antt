@@ -5,8 +5,8 @@ use Prim.Native.Nat.{ℕ}
 use Rattle.wire.specs.Choose.{pick, bind}
 use Rattle.wire.specs.Got.{on}
 use Rattle.wire.specs.Refusals.{Outcome, taken, refused}
-use Rattle.wire.specs.BigEndian.{bigEndian, fixedAt}
-use Rattle.wire.specs.Varints.{leading, low, varintAt}
+use Rattle.fixed.specs.BigEndian.{bigEndian, fixedAt}
+use Rattle.varints.specs.Varints.{leading, low, varintAt}
 use Rattle.wire.specs.Times.{biased}
 use Rattle.wire.specs.declared.refusal.Fault.the-variants.{PastEnd, LeftOver}
 use Rattle.wire.specs.declared.refusal.Slice.the-variants.{Data}

@@ -8,9 +8,9 @@ use borrow.Author.Tests.{eq-eqb, ne-eqb, le-ltb}
 use lib.Dec.{eqb}
 use lib.ListN.{length, set, length-append}
 use Rattle.wire.specs.Choose.{pick}
-use Rattle.wire.specs.Varints.{shortest}
+use Rattle.varints.specs.Varints.{shortest}
 use Rattle.wire.specs.Store.{Room, Puts, part, shown}
-use Rattle.wire.proofs.Shortest.{extra-le, length-shortest}
+use Rattle.varints.proofs.Shortest.{extra-le, length-shortest}
 use Rattle.wire.proofs.Splices.{splice-cons}
 use Rattle.wire.proofs.Puts.{length-part, puts-none, puts-then, room-left, room-right, room-no, puts-yes, puts-no}
 use Rattle.wire.specs.declared.times.Bases.{Bases}

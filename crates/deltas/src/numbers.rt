@@ -3,9 +3,8 @@ ghost use mathlib.Core.Path.{_≡_};
 ghost use Prim.Native.Nat.{_-_, _≤_};
 ghost use mathlib.Core.List.{[], _∷_};
 ghost use lib.ListN.{length};
-ghost use Rattle.wire.specs.Varints.{shortest};
+ghost use Rattle.varints.specs.Varints.{shortest};
 ghost use Rattle.wire.specs.Store.{Room, Puts};
-use wire::varint;
 
 // Stores a byte at at: the place after it.
 // Internal: for writers that have measured before they store.
@@ -32,7 +31,7 @@ fn above(base: u64, x: u64) -> u64
 pub fn delta_len(base: u64, x: u64) -> u64
     ensures { λ r. ⌜ (r ≡ length (shortest (x - base))) × (r ≤ 9) ⌝ }
 {
-    varint::len(above(base, x)) as u64
+    varints::len(above(base, x)) as u64
 }
 
 // Stores the shortest varint of what x lies above base: the place after it.
@@ -41,5 +40,5 @@ pub fn put_delta(d: &mut [u8], at: usize, base: u64, x: u64) -> usize
     requires { ⌜ Room (now d) at (shortest (x - base)) ⌝ }
     ensures { λ r. ⌜ Puts (now (d .entry)) (now (d .exit)) at (shortest (x - base)) r ⌝ }
 {
-    varint::put_in(d, at, above(base, x))
+    varints::put_in(d, at, above(base, x))
 }

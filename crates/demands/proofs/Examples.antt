@@ -6,12 +6,12 @@ use Prim.Native.Nat.{ℕ, _+_, _-_, _^_}
 use lib.Ieee as Ieee
 use Rattle.wire.specs.Choose.{pick, bind}
 use Rattle.wire.specs.Got.{on, within}
-use Rattle.wire.specs.BigEndian.{bigEndian, bytesOf, fixedAt}
+use Rattle.fixed.specs.BigEndian.{bigEndian, bytesOf, fixedAt}
 use Rattle.wire.specs.Store.{part, shown}
 use Rattle.wire.specs.Times.{biased}
-use Rattle.wire.specs.Varints.{leading, low, varintAt}
+use Rattle.varints.specs.Varints.{leading, low, varintAt}
 use Rattle.wire.specs.declared.times.Bases.{Bases}
-use Rattle.wire.proofs.Vectors.{Spells, vectors}
+use Rattle.varints.proofs.Vectors.{Spells, vectors}
 use Rattle.typetable.specs.Text.{text, same, among}
 use Rattle.typetable.specs.Table.{table, lineIn, nth, isLine}
 use Rattle.typetable.specs.Table.{lineOf as typeLine}

@@ -5,7 +5,7 @@ use Prim.Native.Nat.{ℕ}
 use lib.ListN.{length}
 use Rattle.wire.specs.Choose.{pick, bind}
 use Rattle.wire.specs.Got.{Got, got, bad, on}
-use Rattle.wire.specs.BigEndian.{bigEndian, fixedAt}
+use Rattle.fixed.specs.BigEndian.{bigEndian, fixedAt}
 use Rattle.wire.specs.declared.refusal.Fault.{Fault}
 use Rattle.wire.specs.declared.refusal.Fault.the-variants.{PastEnd, OutOfRange, NotCarried, TooMany, Repeated, LeftOver}
 use Rattle.entries.specs.Contents.{offsetOf, withEntry, used, entryTypeAt, offsetAt, pairsAt, countAt, present, contentsAt, nearer, endOf}

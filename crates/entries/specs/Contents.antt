@@ -7,7 +7,7 @@ use mathlib.Core.List.{List}
 use lib.Dec.{ltb, eqb}
 use Rattle.wire.specs.Choose.{pick, bind}
 use Rattle.wire.specs.Got.{Got, got, bad, on, Reader, _>>=_, ret}
-use Rattle.wire.specs.BigEndian.{fixedAt}
+use Rattle.fixed.specs.BigEndian.{fixedAt}
 use Rattle.wire.specs.declared.refusal.Fault.the-variants.{PastEnd, OutOfRange, NotCarried, TooMany, Repeated}
 use Rattle.entries.specs.declared.contents.Contents.{Contents}
 use Rattle.entries.specs.declared.contents.Listed.{Listed}

@@ -7,7 +7,7 @@ use lib.Ieee as Ieee
 use lib.Ieee.{Float, binary64}
 use Rattle.wire.specs.Choose.{pick, bind}
 use Rattle.wire.specs.Got.{Got, got, bad, on, Reader}
-use Rattle.wire.specs.BigEndian.{fixedAt}
+use Rattle.fixed.specs.BigEndian.{fixedAt}
 use Rattle.wire.specs.declared.refusal.Fault.the-variants.{PastEnd, LeftOver, OutOfRange}
 use Rattle.entries.specs.declared.validation.Chance.{Chance}
 use Rattle.entries.specs.declared.validation.Validation.{Validation}

@@ -94,7 +94,7 @@ fn is_used(o: usize, c: Contents) -> bool
 fn entry_type(s: &[u8], at: usize, end: usize, c: Contents) -> Num
     ensures { λ r. ⌜ saidNum r ≡ entryTypeAt c (now (s .entry)) at end ⌝ }
 {
-    match wire::number::read(s, at, end, 4) {
+    match fixed::read(s, at, end, 4) {
         Num::Number { value, next } => {
             if 3 < value {
                 return Num::Refused {
@@ -118,7 +118,7 @@ fn entry_type(s: &[u8], at: usize, end: usize, c: Contents) -> Num
 fn entry_offset(s: &[u8], at: usize, end: usize, c: Contents, start: usize) -> Num
     ensures { λ r. ⌜ saidNum r ≡ offsetAt c start (now (s .entry)) at end ⌝ }
 {
-    match wire::number::read(s, at, end, 4) {
+    match fixed::read(s, at, end, 4) {
         Num::Number { value, next } => {
             if 2147483647 < value {
                 return Num::Refused {
@@ -155,7 +155,7 @@ fn entry_offset(s: &[u8], at: usize, end: usize, c: Contents, start: usize) -> N
 fn count(s: &[u8], at: usize, end: usize) -> Num
     ensures { λ r. ⌜ saidNum r ≡ countAt (now (s .entry)) at end ⌝ }
 {
-    match wire::number::read(s, at, end, 4) {
+    match fixed::read(s, at, end, 4) {
         Num::Number { value, next } => {
             if 2147483647 < value {
                 return Num::Refused {

@@ -58,7 +58,7 @@ fn chance_of(bits: u64, at: usize, next: usize) -> Chances
 fn chance_at(s: &[u8], at: usize, end: usize) -> Chances
     ensures { λ r. ⌜ saidChance r ≡ chanceAt (now (s .entry)) at end ⌝ }
 {
-    match wire::number::read(s, at, end, 8) {
+    match fixed::read(s, at, end, 8) {
         Num::Number { value, next } => chance_of(value, at, next),
         Num::Refused { fault, place } => Chances::Refused { fault, place },
     }
@@ -68,7 +68,7 @@ fn chance_at(s: &[u8], at: usize, end: usize) -> Chances
 pub fn read(s: &[u8], at: usize, end: usize) -> Validated
     ensures { λ r. ⌜ saidValidated r ≡ validationAt (now (s .entry)) at end ⌝ }
 {
-    match wire::number::read(s, at, end, 2) {
+    match fixed::read(s, at, end, 2) {
         Num::Number { value, next } => {
             let len = value as usize;
             if end - next < len {

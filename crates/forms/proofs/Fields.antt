@@ -10,11 +10,11 @@ use lib.ListN.{length, getD}
 use Rattle.wire.specs.Choose.{pick}
 use Rattle.wire.specs.Got.{Got, got, bad, on}
 use Rattle.wire.specs.Store.{part, shown}
-use Rattle.wire.specs.Varints.{shortest, varintAt}
+use Rattle.varints.specs.Varints.{shortest, varintAt}
 use Rattle.wire.specs.declared.times.Bases.{Bases}
 use Rattle.wire.proofs.RoundTrip.{Reads, reads-got, reads-on, reads-at, reads-yes, reads-no, reads-to}
 use Rattle.wire.proofs.Stands.{Stands, stands-left, stands-right, stands-byte, stands-part}
-use Rattle.wire.proofs.Varints.{varint-back}
+use Rattle.varints.proofs.Varints.{varint-back}
 use Rattle.cell.specs.Fields.{span, deletion, byteAt, inAt, deletionAt, variableAt, valueAt}
 use Rattle.cell.specs.declared.fields.Deletion.{Deletion}
 use Rattle.cell.specs.declared.fields.Span.{Span}

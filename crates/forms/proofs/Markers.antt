@@ -9,11 +9,11 @@ use lib.Dec.{ltb, eqb}
 use lib.ListN.{length, take}
 use Rattle.wire.specs.Choose.{pick}
 use Rattle.wire.specs.Got.{Got, got, bad, on}
-use Rattle.wire.specs.BigEndian.{bytesOf}
+use Rattle.fixed.specs.BigEndian.{bytesOf}
 use Rattle.wire.specs.declared.times.Bases.{Bases}
 use Rattle.wire.proofs.RoundTrip.{Reads, reads-got, reads-on, reads-at, reads-yes, reads-no, reads-to}
 use Rattle.wire.proofs.Stands.{Stands, stands-left, stands-right}
-use Rattle.wire.proofs.BigEndian.{fixed-back}
+use Rattle.fixed.proofs.BigEndian.{fixed-back}
 use Rattle.cell.specs.Fields.{live}
 use Rattle.cell.specs.declared.fields.Deletion.{Deletion}
 use Rattle.cell.proofs.Ranges.{DeletionIn}

@@ -11,10 +11,10 @@ use borrow.Author.Tests.{eqb-true, ltb-false}
 use lib.Dec.{ltb, eqb, lit<}
 use lib.ListN.{length, take, length-append}
 use Rattle.wire.specs.Choose.{pick}
-use Rattle.wire.specs.Varints.{shortest}
+use Rattle.varints.specs.Varints.{shortest}
 use Rattle.wire.specs.declared.times.Bases.{Bases}
 use Rattle.wire.proofs.Choose.{pick-ind}
-use Rattle.wire.proofs.Within.{Within, append, wider, nothing, one, fixed-within, shortest-within, shown-within}
+use Rattle.varints.proofs.Within.{Within, append, wider, nothing, one, fixed-within, shortest-within, shown-within}
 use Rattle.cell.specs.Fields.{live}
 use Rattle.cell.specs.declared.fields.Deletion.{Deletion}
 use Rattle.cell.specs.declared.fields.Span.{Span}

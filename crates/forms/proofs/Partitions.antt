@@ -10,12 +10,12 @@ use lib.ListN.{length}
 use Rattle.wire.specs.Choose.{pick, bind}
 use Rattle.wire.specs.Got.{Got, got, bad, on}
 use Rattle.wire.specs.Store.{shown}
-use Rattle.wire.specs.BigEndian.{bytesOf, fixedAt}
+use Rattle.fixed.specs.BigEndian.{bytesOf, fixedAt}
 use Rattle.wire.specs.Times.{biased}
 use Rattle.wire.proofs.Choose.{pick-ind}
 use Rattle.wire.proofs.RoundTrip.{Reads, reads-got, reads-on, reads-at, reads-yes, reads-no, reads-to}
 use Rattle.wire.proofs.Stands.{Stands, stands-left, stands-right}
-use Rattle.wire.proofs.BigEndian.{fixed-back}
+use Rattle.fixed.proofs.BigEndian.{fixed-back}
 use Rattle.cell.specs.Fields.{span, deletion, live}
 use Rattle.cell.specs.declared.fields.Deletion.{Deletion}
 use Rattle.cell.specs.declared.fields.Span.{Span}

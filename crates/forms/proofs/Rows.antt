@@ -11,12 +11,12 @@ use lib.Dec.{ltb, eqb, lit<}
 use lib.ListN.{length, length-append}
 use Rattle.wire.specs.Choose.{pick, bind}
 use Rattle.wire.specs.Got.{Got, got, bad, on}
-use Rattle.wire.specs.Varints.{shortest, varintAt}
+use Rattle.varints.specs.Varints.{shortest, varintAt}
 use Rattle.wire.specs.declared.times.Bases.{Bases}
 use Rattle.wire.proofs.Choose.{pick-ind}
 use Rattle.wire.proofs.RoundTrip.{Reads, reads-got, reads-on, reads-at, reads-yes, reads-no, reads-to}
 use Rattle.wire.proofs.Stands.{Stands, stands-left, stands-right, narrow}
-use Rattle.wire.proofs.Varints.{varint-back}
+use Rattle.varints.proofs.Varints.{varint-back}
 use Rattle.cell.specs.Fields.{deletion, live}
 use Rattle.cell.specs.declared.fields.Deletion.{Deletion}
 use Rattle.cell.specs.declared.cells.Times.{Times}

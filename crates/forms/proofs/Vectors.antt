@@ -4,8 +4,8 @@ use mathlib.Core.List.{List, [], _∷_}
 use mathlib.Core.Option.{Option, none, some}
 use Prim.Native.Nat.{ℕ, _+_}
 use Rattle.wire.specs.Choose.{pick}
-use Rattle.wire.specs.BigEndian.{bytesOf}
-use Rattle.wire.specs.Varints.{form, extra, shortest}
+use Rattle.fixed.specs.BigEndian.{bytesOf}
+use Rattle.varints.specs.Varints.{form, extra, shortest}
 use Rattle.wire.specs.Times.{biased}
 use Rattle.wire.specs.declared.times.Bases.{Bases}
 use Rattle.cell.specs.Fields.{deletion, live}

@@ -5,7 +5,7 @@ use mathlib.Core.List.{List, [], _∷_, _++_}
 use lib.Dec.{eqb}
 use lib.ListN.{length}
 use Rattle.wire.specs.Choose.{pick}
-use Rattle.wire.specs.Varints.{shortest}
+use Rattle.varints.specs.Varints.{shortest}
 use Rattle.forms.specs.Cells.{fieldBytes}
 
 -- "two bits a column from the lowest, empty then null"

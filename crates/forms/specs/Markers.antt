@@ -3,7 +3,7 @@ use Prim.Native.Nat.{ℕ}
 use mathlib.Core.List.{List, [], _∷_, _++_}
 use lib.ListN.{length, take}
 use Rattle.wire.specs.Choose.{pick}
-use Rattle.wire.specs.BigEndian.{bytesOf}
+use Rattle.fixed.specs.BigEndian.{bytesOf}
 use Rattle.wire.specs.declared.times.Bases.{Bases}
 use Rattle.turns.specs.Turns.{isBoundary}
 use Rattle.marker.specs.declared.markers.Deletions.{Deletions}

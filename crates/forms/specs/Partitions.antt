@@ -4,7 +4,7 @@ use mathlib.Core.List.{List, _++_}
 use lib.Dec.{eqb}
 use lib.ListN.{length}
 use Rattle.wire.specs.Choose.{pick}
-use Rattle.wire.specs.BigEndian.{bytesOf}
+use Rattle.fixed.specs.BigEndian.{bytesOf}
 use Rattle.wire.specs.Times.{biased}
 use Rattle.cell.specs.declared.fields.Deletion.{Deletion}
 

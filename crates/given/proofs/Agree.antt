@@ -10,10 +10,10 @@ use borrow.Author.Tests.{lt-ltb, le-ltb, le-leb, eq-eqb}
 use lib.Dec.{ltb}
 use lib.ListN.{length, getD}
 use Rattle.wire.specs.Got.{Got, got, bad, on}
-use Rattle.wire.specs.BigEndian.{bigEndian}
+use Rattle.fixed.specs.BigEndian.{bigEndian}
 use Rattle.wire.proofs.Choose.{pick-yes, pick-no, pick-ind}
 use Rattle.wire.proofs.Gives.{gives-is}
-use Rattle.wire.proofs.BigEndian.{be-lt}
+use Rattle.fixed.proofs.BigEndian.{be-lt}
 use Rattle.schema.specs.Records.{roleAt, lineAt, markAt, widthAt, nameAt, nameLenAt, zerosAt, isKindOf, isNameOf, given, none, recordAt, recordsAt, schemaAt, anywhere}
 use Rattle.schema.specs.declared.records.Counts.{Counts}
 use Rattle.given.specs.Schemas.{ofPlace, Alike}

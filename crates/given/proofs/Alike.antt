@@ -11,7 +11,7 @@ use lib.Dec.{ltb}
 use lib.ListN.{length, getD, List·getD-append}
 use lib.Seq.{getD-append-add}
 use Rattle.wire.specs.Choose.{pick}
-use Rattle.wire.specs.BigEndian.{bigEndian, bytesOf}
+use Rattle.fixed.specs.BigEndian.{bigEndian, bytesOf}
 use Rattle.schema.specs.Records.{roleAt, lineAt, markAt, widthAt, nameAt, nameLenAt, zerosAt}
 use Rattle.schema.specs.Columns.{columnAt}
 use Rattle.schema.specs.declared.columns.Column.{Column}

@@ -6,11 +6,11 @@ use native.Mathlib.Omega.{arith}
 use lib.Dec.{T, ltb, leb, leb→le, ltb→lt}
 use lib.ListN.{length, getD}
 use Rattle.wire.specs.Choose.{pick, bind}
-use Rattle.wire.specs.BigEndian.{bytesOf}
-use Rattle.wire.specs.Varints.{shortest}
+use Rattle.fixed.specs.BigEndian.{bytesOf}
+use Rattle.varints.specs.Varints.{shortest}
 use Rattle.wire.proofs.Choose.{pick-ind}
 use Rattle.wire.proofs.Finite.{allBelow, below-at}
-use Rattle.wire.proofs.Within.{Within, append, wider, nothing, cons-byte, fixed-within, shortest-within}
+use Rattle.varints.proofs.Within.{Within, append, wider, nothing, cons-byte, fixed-within, shortest-within}
 use Rattle.typetable.specs.Table.{table, noLine, nth, lineOf}
 use Rattle.typetable.proofs.Texts.{first-passes, then-passes}
 use Rattle.types.specs.declared.Kind.{Kind}

@@ -11,10 +11,10 @@ use lib.ListN.{length}
 use Rattle.wire.specs.Choose.{pick, bind}
 use Rattle.wire.specs.Got.{Got}
 use Rattle.wire.specs.Store.{shown}
-use Rattle.wire.specs.BigEndian.{bytesOf}
+use Rattle.fixed.specs.BigEndian.{bytesOf}
 use Rattle.wire.proofs.Choose.{pick-yes, pick-no, pick-ind, bind-self}
 use Rattle.wire.proofs.Gives.{Gives, gives-on, gives-got, gives-bad, gives-pick, gives-bind}
-use Rattle.wire.proofs.Varints.{varint-ends}
+use Rattle.varints.proofs.Varints.{varint-ends}
 use Rattle.typetable.specs.Table.{lineOf}
 use Rattle.types.specs.declared.Kind.{Kind}
 use Rattle.types.proofs.Carried.{Carried, carried-line, type-gives}

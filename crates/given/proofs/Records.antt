@@ -7,9 +7,9 @@ use native.Mathlib.Omega.{arith}
 use borrow.Author.Tests.{le-ltb, ne-eqb}
 use lib.ListN.{length, getD}
 use Rattle.wire.specs.Got.{got, on}
-use Rattle.wire.specs.BigEndian.{bytesOf}
+use Rattle.fixed.specs.BigEndian.{bytesOf}
 use Rattle.wire.proofs.Choose.{pick-yes, pick-no}
-use Rattle.wire.proofs.BigEndian.{spelled-back}
+use Rattle.fixed.proofs.BigEndian.{spelled-back}
 use Rattle.wire.proofs.Stands.{Stands, stands-left, stands-right}
 use Rattle.schema.specs.Records.{roleAt, lineAt, markAt, widthAt, nameAt, nameLenAt, zerosAt, isKindOf, isNameOf, given, inTurn, withOne, none, recordAt, recordsAt, schemaAt}
 use Rattle.schema.specs.Columns.{columnAt}

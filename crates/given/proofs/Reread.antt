@@ -10,11 +10,11 @@ use lib.ListN.{length, length-take, length-drop}
 use Rattle.wire.specs.Choose.{pick, bind}
 use Rattle.wire.specs.Got.{Got}
 use Rattle.wire.specs.Store.{part, shown}
-use Rattle.wire.specs.Varints.{shortest}
+use Rattle.varints.specs.Varints.{shortest}
 use Rattle.wire.proofs.Choose.{pick-yes, pick-no, pick-ind}
 use Rattle.wire.proofs.RoundTrip.{Reads, reads-got, reads-on, reads-at, reads-yes, reads-no, reads-to}
 use Rattle.wire.proofs.Stands.{Stands, stands-left, stands-right}
-use Rattle.wire.proofs.Varints.{varint-back}
+use Rattle.varints.proofs.Varints.{varint-back}
 use Rattle.typetable.specs.Table.{lineOf}
 use Rattle.typetable.specs.Text.{same}
 use Rattle.typetable.proofs.Texts.{same-lengths}

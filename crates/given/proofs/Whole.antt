@@ -9,11 +9,11 @@ use lib.Dec.{ltb}
 use lib.Ieee as Ieee
 use lib.ListN.{length}
 use Rattle.wire.specs.Choose.{pick, bind}
-use Rattle.wire.specs.BigEndian.{bytesOf, fixedAt}
+use Rattle.fixed.specs.BigEndian.{bytesOf, fixedAt}
 use Rattle.wire.proofs.Choose.{pick-ind}
 use Rattle.wire.proofs.RoundTrip.{Reads, reads-got, reads-on, reads-at, reads-yes, reads-no, reads-to}
 use Rattle.wire.proofs.Stands.{Stands, stands-left, stands-right, narrow}
-use Rattle.wire.proofs.BigEndian.{length-bytesOf, fixed-back}
+use Rattle.fixed.proofs.BigEndian.{length-bytesOf, fixed-back}
 use Rattle.schema.specs.declared.columns.Column.{Column}
 use Rattle.entries.specs.Contents.{none, offsetOf, withEntry, used, entryTypeAt, offsetAt, pairsAt, countAt, present, contentsAt, nearer, endOf}
 use Rattle.entries.specs.Validation.{chanceOf, chanceAt, validationAt}

@@ -5,8 +5,8 @@ use Prim.Native.Nat.{ℕ, zero, suc, _+_}
 use lib.Dec.{ltb}
 use lib.ListN.{length}
 use Rattle.wire.specs.Choose.{pick}
-use Rattle.wire.specs.BigEndian.{bytesOf}
-use Rattle.wire.specs.Varints.{shortest}
+use Rattle.fixed.specs.BigEndian.{bytesOf}
+use Rattle.varints.specs.Varints.{shortest}
 use Rattle.types.specs.declared.Kind.{Kind}
 use Rattle.types.proofs.Spelled.{typeBytes}
 use Rattle.schema.specs.declared.columns.Column.{Column}

@@ -4,7 +4,6 @@ ghost use Prim.Native.Nat.{_+_, _≤_};
 ghost use lib.ListN.{length};
 ghost use Rattle.taken.specs.Fields.{strayBytes, hasTime, hasExpiry, hasLocal, hasMark, hasSecond, hasColumn, stray, strayFirst, strayLast, strayNumbers};
 use items::Item;
-use wire::number;
 
 // A byte as a number.
 pub(crate) fn wide(b: u8) -> u64
@@ -21,7 +20,7 @@ pub(crate) fn is_stray_bytes(s: &[u8], at: usize) -> bool
     if 0 < wide(s[at + 3]) {
         return true;
     }
-    0 < number::big_endian(s, at + 44, 4, 0)
+    0 < fixed::big_endian(s, at + 44, 4, 0)
 }
 
 // Whether a record uses its timestamp.

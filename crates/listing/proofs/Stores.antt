@@ -2,7 +2,7 @@
 use mathlib.Core.Path.{_≡_, refl}
 use mathlib.Core.List.{List, _++_}
 use Prim.Native.Nat.{ℕ}
-use Rattle.wire.specs.BigEndian.{bytesOf}
+use Rattle.fixed.specs.BigEndian.{bytesOf}
 use Rattle.wire.specs.Times.{biased}
 use Rattle.wire.specs.Store.{Room, Puts}
 use Rattle.wire.proofs.Puts.{room-left, room-right, puts-then}

@@ -3,7 +3,7 @@
 -- marks signed (decision N1). Assumes nothing.
 use Prim.Native.Nat.{ℕ}
 use mathlib.Core.List.{List, [], _∷_, _++_}
-use Rattle.wire.specs.BigEndian.{bytesOf}
+use Rattle.fixed.specs.BigEndian.{bytesOf}
 use Rattle.wire.specs.Times.{biased}
 use Rattle.items.specs.declared.Item.{Item}
 

@@ -6,8 +6,8 @@ use Prim.Native.Nat.{ℕ}
 use lib.ListN.{length, take}
 use Rattle.wire.specs.Choose.{pick, bind}
 use Rattle.wire.specs.Got.{Got, got, bad, on}
-use Rattle.wire.specs.BigEndian.{bigEndian, fixedAt}
-use Rattle.wire.specs.Varints.{leading, low, varintAt}
+use Rattle.fixed.specs.BigEndian.{bigEndian, fixedAt}
+use Rattle.varints.specs.Varints.{leading, low, varintAt}
 use Rattle.wire.specs.declared.refusal.Fault.the-variants.{PastEnd, LeftOver, BadFlags, OutOfRange, OutOfTurn}
 use Rattle.cell.specs.Fields.{byteAt, inAt, deletionAt, variableAt, valueAt, deletion, live}
 use Rattle.wire.specs.declared.times.Bases.{Bases}

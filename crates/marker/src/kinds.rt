@@ -4,7 +4,6 @@ ghost use Rattle.wire.specs.Got.{saidNum};
 ghost use Rattle.marker.specs.Kinds.{markerFlagsAt, kindAt, countAt};
 ghost use Rattle.turns.specs.Turns.{badKind, isStart, isBoundary, outOfTurn};
 use cell::fields;
-use wire::number;
 use wire::number::Num;
 use wire::refusal::Fault;
 
@@ -54,7 +53,7 @@ pub(crate) fn read_kind(s: &[u8], at: usize, end: usize, opened: u8) -> Num
 pub(crate) fn read_count(s: &[u8], at: usize, end: usize, k: u64) -> Num
     ensures { λ r. ⌜ saidNum r ≡ countAt k (now (s .entry)) at end ⌝ }
 {
-    match number::read(s, at, end, 2) {
+    match fixed::read(s, at, end, 2) {
         Num::Number { value, next } => {
             if k < value {
                 return Num::Refused {

@@ -9,10 +9,10 @@ use lib.Dec.{ltb, eqb}
 use lib.ListN.{length, getD}
 use Rattle.wire.specs.Choose.{pick}
 use Rattle.wire.specs.Got.{Got, got}
-use Rattle.wire.specs.BigEndian.{fixedAt}
+use Rattle.fixed.specs.BigEndian.{fixedAt}
 use Rattle.wire.proofs.Choose.{pick-ind}
 use Rattle.wire.proofs.Gives.{Gives, gives-got, gives-bad, gives-on, gives-pick, gives-bind}
-use Rattle.wire.proofs.BigEndian.{Fixed, fixed-gives}
+use Rattle.fixed.proofs.BigEndian.{Fixed, fixed-gives}
 use Rattle.cell.specs.declared.fields.Deletion.{Deletion}
 use Rattle.cell.specs.declared.fields.Span.{Span}
 use Rattle.cell.proofs.Ranges.{Moves, moves-moves, fixed-moves}

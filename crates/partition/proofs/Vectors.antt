@@ -4,7 +4,7 @@ use mathlib.Core.List.{List, [], _∷_}
 use Prim.Native.Nat.{ℕ}
 use Rattle.wire.specs.Choose.{pick, bind}
 use Rattle.wire.specs.Got.{Got, got, bad, on}
-use Rattle.wire.specs.BigEndian.{bigEndian, fixedAt}
+use Rattle.fixed.specs.BigEndian.{bigEndian, fixedAt}
 use Rattle.wire.specs.declared.refusal.Fault.the-variants.{PastEnd, OutOfRange}
 use Rattle.cell.specs.Fields.{span, deletion, live}
 use Rattle.wire.specs.Times.{biased}

@@ -4,7 +4,7 @@ use lib.Dec.{ltb, eqb}
 use Rattle.wire.specs.Choose.{pick, bind}
 use Rattle.wire.specs.Times.{biased}
 use Rattle.wire.specs.Got.{Got, got, bad, on, Reader}
-use Rattle.wire.specs.BigEndian.{fixedAt}
+use Rattle.fixed.specs.BigEndian.{fixedAt}
 use Rattle.wire.specs.declared.refusal.Fault.the-variants.{PastEnd, OutOfRange}
 use Rattle.cell.specs.Fields.{span, deletion, live}
 use Rattle.cell.specs.declared.fields.Deletion.{Deletion}

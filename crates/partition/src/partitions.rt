@@ -5,7 +5,6 @@ ghost use Rattle.partition.specs.Partitions.{keyOf, deletedBy, deletedAt
 use cell::fields::Deleted;
 use cell::fields::Deletion;
 use cell::fields::Span;
-use wire::number;
 use wire::number::Num;
 use wire::refusal::Fault;
 use wire::times;
@@ -72,7 +71,7 @@ fn deleted_by(local: u64, mark: u64, at: usize, p: usize, next: usize) -> Delete
 fn read_deleted(s: &[u8], at: usize, end: usize) -> Deleted
     ensures { λ r. ⌜ saidDeleted r ≡ deletedAt (now (s .entry)) at end ⌝ }
 {
-    match number::read(s, at, end, 4) {
+    match fixed::read(s, at, end, 4) {
         Num::Number { value: local, next } => {
             if 2147483647 < local {
                 return Deleted::Refused {
@@ -80,7 +79,7 @@ fn read_deleted(s: &[u8], at: usize, end: usize) -> Deleted
                     place: at,
                 };
             }
-            match number::read(s, next, end, 8) {
+            match fixed::read(s, next, end, 8) {
                 Num::Number { value, next: after } => {
                     let mark = times::biased_of(value);
                     deleted_by(local, mark, at, next, after)
@@ -96,7 +95,7 @@ fn read_deleted(s: &[u8], at: usize, end: usize) -> Deleted
 pub fn read_partition(s: &[u8], at: usize, end: usize) -> Found
     ensures { λ r. ⌜ saidFound r ≡ partitionAt (now (s .entry)) at end ⌝ }
 {
-    match number::read(s, at, end, 2) {
+    match fixed::read(s, at, end, 2) {
         Num::Number { value, next } => {
             let len = value as usize;
             if end - next < len {

@@ -4,9 +4,9 @@ use mathlib.Core.List.{List}
 use Prim.Native.Nat.{ℕ, zero, suc, _+_, _*_, _^_, _≤_, _<_}
 use native.Mathlib.Omega.{arith}
 use lib.ListN.{getD}
-use Rattle.wire.specs.BigEndian.{bigEndian}
+use Rattle.fixed.specs.BigEndian.{bigEndian}
 use Rattle.wire.specs.Times.{biased}
-use Rattle.wire.proofs.BigEndian.{be-lt}
+use Rattle.fixed.proofs.BigEndian.{be-lt}
 use Rattle.taken.specs.Fields.{signedAt}
 
 be-split : (acc : ℕ) (s : List ℕ) (at m n : ℕ) → bigEndian acc s at (m + n) ≡ bigEndian (bigEndian acc s at m) s (at + m) n

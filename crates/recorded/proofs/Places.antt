@@ -4,7 +4,7 @@ use mathlib.Core.List.{List}
 use Prim.Native.Nat.{ℕ, _+_, _/_, _%_}
 use borrow.Author.Tests.{eq-eqb, ne-eqb}
 use lib.ListN.{getD}
-use Rattle.wire.specs.BigEndian.{bigEndian}
+use Rattle.fixed.specs.BigEndian.{bigEndian}
 use Rattle.wire.proofs.Choose.{pick-yes, pick-no}
 use Rattle.cell.specs.Fields.{span, live}
 use Rattle.cell.specs.Cells.{cell}

@@ -2,10 +2,9 @@
 ghost use mathlib.Core.Path.{_≡_};
 ghost use Prim.Native.Nat.{_+_, _≤_, _<_};
 ghost use lib.ListN.{length, getD};
-ghost use Rattle.wire.specs.BigEndian.{bigEndian};
+ghost use Rattle.fixed.specs.BigEndian.{bigEndian};
 ghost use Rattle.taken.specs.Fields.{signedAt, itemOf};
 use items::Item;
-use wire::number;
 use wire::times;
 
 // A byte as a number.
@@ -28,7 +27,7 @@ pub(crate) fn word_at(s: &[u8], at: usize) -> u64
     requires { ⌜ at + 4 ≤ length (now s) ⌝ }
     ensures { λ r. ⌜ r ≡ bigEndian 0 (now (s .entry)) at 4 ⌝ }
 {
-    number::big_endian(s, at, 4, 0)
+    fixed::big_endian(s, at, 4, 0)
 }
 
 // The number of eight bytes at at.
@@ -36,7 +35,7 @@ pub(crate) fn long_at(s: &[u8], at: usize) -> u64
     requires { ⌜ at + 8 ≤ length (now s) ⌝ }
     ensures { λ r. ⌜ r ≡ bigEndian 0 (now (s .entry)) at 8 ⌝ }
 {
-    number::big_endian(s, at, 8, 0)
+    fixed::big_endian(s, at, 8, 0)
 }
 
 // The timestamp or mark at at, plus 2^63; in halves, which are one load each.
@@ -45,7 +44,7 @@ pub(crate) fn signed_at(s: &[u8], at: usize) -> u64
     ensures { λ r. ⌜ r ≡ signedAt (now (s .entry)) at ⌝ }
 {
     let high = word_at(s, at);
-    times::biased_of(number::big_endian(s, at + 4, 4, high))
+    times::biased_of(fixed::big_endian(s, at + 4, 4, high))
 }
 
 // The record at at.

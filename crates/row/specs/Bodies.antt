@@ -5,7 +5,7 @@ use Prim.Native.Nat.{ℕ, _-_, _/_, _%_, _^_}
 use lib.Dec.{ltb, eqb}
 use Rattle.wire.specs.Choose.{pick, bind}
 use Rattle.wire.specs.Got.{Got, got, bad, on, Reader, _>>=_, ret, when}
-use Rattle.wire.specs.Varints.{varintAt}
+use Rattle.varints.specs.Varints.{varintAt}
 use Rattle.wire.specs.declared.refusal.Fault.the-variants.{BadFlags}
 use Rattle.cell.specs.Fields.{inAt, timestampAt, localAt, ttlAt, deletionAt, live}
 use Rattle.wire.specs.declared.times.Bases.{Bases}

@@ -12,7 +12,6 @@ use clustering::sizes;
 use wire::number::Num;
 use wire::refusal::Fault;
 use wire::times::Bases;
-use wire::varint;
 
 // Where the body ends, the row's times and deletion, and a bit for each column that has a cell, the lowest the first column's.
 pub struct Body {
@@ -133,7 +132,7 @@ fn read_present(s: &[u8], at: usize, end: usize, k: u64, f: u64) -> Num
             next: at,
         };
     }
-    match varint::read(s, at, end) {
+    match varints::read(s, at, end) {
         Num::Number { value, next } => {
             if all < value {
                 return Num::Refused {

@@ -6,12 +6,12 @@ use native.Mathlib.Omega.{arith}
 use lib.Dec.{eqb}
 use lib.ListN.{length, take, length-append}
 use Rattle.wire.specs.Choose.{pick}
-use Rattle.wire.specs.Varints.{shortest}
-use Rattle.wire.specs.BigEndian.{bytesOf}
+use Rattle.varints.specs.Varints.{shortest}
+use Rattle.fixed.specs.BigEndian.{bytesOf}
 use Rattle.wire.specs.Store.{shown}
 use Rattle.wire.specs.Times.{biased}
 use Rattle.wire.specs.declared.times.Bases.{Bases}
-use Rattle.wire.proofs.BigEndian.{length-bytesOf}
+use Rattle.fixed.proofs.BigEndian.{length-bytesOf}
 use Rattle.cell.specs.declared.fields.Deletion.{Deletion}
 use Rattle.cell.specs.declared.cells.Times.{Times}
 use Rattle.turns.specs.Turns.{isBoundary}

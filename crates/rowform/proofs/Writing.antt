@@ -3,7 +3,7 @@ use mathlib.Core.Path.{_≡_}
 use mathlib.Core.List.{List, [], _∷_, _++_}
 use Prim.Native.Nat.{ℕ, _+_, _≤_}
 use lib.ListN.{length}
-use Rattle.wire.specs.BigEndian.{bytesOf}
+use Rattle.fixed.specs.BigEndian.{bytesOf}
 use Rattle.wire.specs.Store.{Room, Puts, part, shown}
 use Rattle.wire.proofs.Puts.{puts-then, room-left, room-right}
 use Rattle.cell.specs.declared.fields.Deletion.{Deletion}

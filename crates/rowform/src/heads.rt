@@ -3,7 +3,7 @@ ghost use mathlib.Core.Path.{_≡_};
 ghost use Prim.Native.Nat.{_-_, _≤_};
 ghost use mathlib.Core.List.{_++_};
 ghost use lib.ListN.{length};
-ghost use Rattle.wire.specs.Varints.{shortest};
+ghost use Rattle.varints.specs.Varints.{shortest};
 ghost use Rattle.wire.specs.Store.{Room, Puts};
 ghost use Rattle.forms.specs.Rows.{rowExpiryBytes, livenessBytes, rowDeletionBytes, missingBytes};
 ghost use Rattle.rowform.specs.Parts.{restForm, headForm};
@@ -12,7 +12,6 @@ use cell::cells::Times;
 use cell::fields::Deletion;
 use deltas::numbers;
 use wire::times::Bases;
-use wire::varint;
 
 // TTL and local deletion time, where the row has them.
 fn expiry_len(b: Bases, row: Times) -> u64
@@ -95,7 +94,7 @@ fn missing_len(missing: u64) -> u64
     if missing == 0 {
         return 0;
     }
-    varint::len(missing) as u64
+    varints::len(missing) as u64
 }
 
 fn put_missing(d: &mut [u8], at: usize, missing: u64) -> usize
@@ -105,7 +104,7 @@ fn put_missing(d: &mut [u8], at: usize, missing: u64) -> usize
     if missing == 0 {
         return at;
     }
-    varint::put_in(d, at, missing)
+    varints::put_in(d, at, missing)
 }
 
 fn rest_len(b: Bases, deletion: Deletion, missing: u64) -> u64

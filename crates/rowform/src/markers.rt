@@ -3,7 +3,7 @@ ghost use mathlib.Core.Path.{_≡_};
 ghost use Prim.Native.Nat.{_≤_};
 ghost use mathlib.Core.List.{[], _∷_, _++_};
 ghost use lib.ListN.{length};
-ghost use Rattle.wire.specs.BigEndian.{bytesOf};
+ghost use Rattle.fixed.specs.BigEndian.{bytesOf};
 ghost use Rattle.wire.specs.Store.{Room, Puts};
 ghost use Rattle.forms.specs.Markers.{deletionsBytes};
 ghost use Rattle.rowform.specs.Parts.{secondForm, boundForm};
@@ -11,7 +11,6 @@ use crate::pairs;
 use cell::fields::Deletion;
 use deltas::numbers;
 use marker::markers::Deletions;
-use wire::number;
 use wire::times::Bases;
 
 // The second deletion, which kinds 2 and 5 have.
@@ -59,7 +58,7 @@ fn put_kind(d: &mut [u8], at: usize, kind: u64, count: u64) -> usize
     ensures { λ r. ⌜ Puts (now (d .entry)) (now (d .exit)) at ((kind ∷ []) ++ bytesOf count 2) r ⌝ }
 {
     let p = numbers::put_byte(d, at, kind as u8);
-    number::put_in(d, p, 2, count)
+    fixed::put_in(d, p, 2, count)
 }
 
 // Stores the flags of a marker, its kind and the count of its clustering values: the place after them.

@@ -3,7 +3,7 @@ ghost use mathlib.Core.Path.{_≡_};
 ghost use Prim.Native.Nat.{_-_, _≤_};
 ghost use mathlib.Core.List.{_++_};
 ghost use lib.ListN.{length};
-ghost use Rattle.wire.specs.Varints.{shortest};
+ghost use Rattle.varints.specs.Varints.{shortest};
 ghost use Rattle.wire.specs.Store.{Room, Puts};
 ghost use Rattle.forms.specs.Rows.{deletionBytes};
 use cell::fields::Deletion;

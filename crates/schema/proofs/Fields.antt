@@ -5,7 +5,7 @@ use mathlib.Core.List.{List}
 use Prim.Native.Nat.{ℕ, _+_, _*_, _/_, _≤_, _<_}
 use native.Mathlib.Omega.{arith}
 use lib.ListN.{length, getD}
-use Rattle.wire.specs.BigEndian.{bigEndian}
+use Rattle.fixed.specs.BigEndian.{bigEndian}
 use Rattle.wire.specs.Store.{shown}
 use Rattle.typetable.specs.Text.{same}
 use Rattle.schema.specs.Records.{roleAt, lineAt, markAt, widthAt, nameAt, nameLenAt, zerosAt, isKindOf, isNameOf, given, countOf, mostOf, inTurn, isFirst, isPassed}

@@ -10,7 +10,7 @@ use lib.ListN.{length, getD}
 use Rattle.wire.specs.Choose.{pick, bind}
 use Rattle.wire.specs.Got.{Got, got, bad, on, Reader, _>>=_, ret, within}
 use Rattle.wire.specs.Refusals.{Outcome, taken, refused, saidRefusal}
-use Rattle.wire.specs.BigEndian.{bigEndian}
+use Rattle.fixed.specs.BigEndian.{bigEndian}
 use Rattle.wire.specs.declared.refusal.Fault.the-variants.{OverLimit, BadRecord}
 use Rattle.wire.specs.declared.refusal.Slice.the-variants.{Schema}
 use Rattle.typetable.specs.Table.{lineOf, isLine, reversedLine}

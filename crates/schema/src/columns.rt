@@ -3,7 +3,6 @@ ghost use mathlib.Core.Path.{_≡_};
 ghost use Prim.Native.Nat.{_+_, _≤_};
 ghost use lib.ListN.{length};
 ghost use Rattle.schema.specs.Columns.{columnAt, columnOf, nameOf, sameColumn, sameSchemas, unorderedOf};
-use wire::number;
 use wire::part;
 
 // A column as its record gives it.
@@ -37,8 +36,8 @@ fn column_at(s: &[u8], at: usize) -> Column
         line: s[at + 1],
         reversed: s[at + 2],
         width: s[at + 3],
-        name: number::big_endian(s, at + 4, 4, 0),
-        len: number::big_endian(s, at + 8, 4, 0),
+        name: fixed::big_endian(s, at + 4, 4, 0),
+        len: fixed::big_endian(s, at + 8, 4, 0),
     }
 }
 
@@ -57,8 +56,8 @@ fn name_of<'a, 'b>(statistics: &'a [u8], schema: &'b [u8], at: usize) -> &'a [u8
     requires { ⌜ at + 16 ≤ length (now schema) ⌝ }
     ensures { λ r. ⌜ now r ≡ nameOf (now (statistics .entry)) (now (schema .entry)) at ⌝ }
 {
-    let name = number::big_endian(schema, at + 4, 4, 0);
-    let len = number::big_endian(schema, at + 8, 4, 0);
+    let name = fixed::big_endian(schema, at + 4, 4, 0);
+    let len = fixed::big_endian(schema, at + 8, 4, 0);
     part::shown_in(statistics, name as usize, len as usize)
 }
 

@@ -3,7 +3,6 @@ ghost use mathlib.Core.Path.{_≡_};
 ghost use Prim.Native.Nat.{_+_, _≤_, _<_};
 ghost use lib.ListN.{length, getD};
 ghost use Rattle.schema.specs.Records.{isLineOf, isNameOf, isKindOf, given, countOf, mostOf, isPassed, isFirst, inTurn, withOne, recordAt, schemaAt, anywhere, schemaOf, saidFound, saidChecked};
-use wire::number;
 use wire::refusal::Fault;
 use wire::refusal::Refusal;
 use wire::refusal::Slice;
@@ -78,10 +77,10 @@ fn is_given_column(limit: u64, s: &[u8], at: usize) -> bool
 {
     let role = s[at];
     if is_kind_of(role, s[at + 1], s[at + 2], s[at + 3]) {
-        let name = number::big_endian(s, at + 4, 4, 0);
-        let len = number::big_endian(s, at + 8, 4, 0);
+        let name = fixed::big_endian(s, at + 4, 4, 0);
+        let len = fixed::big_endian(s, at + 8, 4, 0);
         if is_name_of(limit, role, name, len) {
-            return number::big_endian(s, at + 12, 4, 0) == 0;
+            return fixed::big_endian(s, at + 12, 4, 0) == 0;
         }
         return false;
     }
@@ -94,9 +93,9 @@ fn is_given_key(limit: u64, s: &[u8], at: usize) -> bool
     ensures { λ r. ⌜ r ≡ given limit (now (s .entry)) at ⌝ }
 {
     if is_kind_of(s[at], s[at + 1], s[at + 2], s[at + 3]) {
-        if number::big_endian(s, at + 4, 4, 0) == 0 {
-            if number::big_endian(s, at + 8, 4, 0) == 0 {
-                return number::big_endian(s, at + 12, 4, 0) == 0;
+        if fixed::big_endian(s, at + 4, 4, 0) == 0 {
+            if fixed::big_endian(s, at + 8, 4, 0) == 0 {
+                return fixed::big_endian(s, at + 12, 4, 0) == 0;
             }
         }
     }

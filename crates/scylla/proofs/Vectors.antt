@@ -6,7 +6,7 @@ use Prim.Native.Nat.{ℕ}
 use Rattle.wire.specs.Choose.{pick, bind}
 use Rattle.wire.specs.Got.{got, bad, on, within}
 use Rattle.wire.specs.Refusals.{Outcome, taken, refused}
-use Rattle.wire.specs.BigEndian.{bigEndian, bytesOf, fixedAt}
+use Rattle.fixed.specs.BigEndian.{bigEndian, bytesOf, fixedAt}
 use Rattle.wire.specs.declared.refusal.Fault.{Fault}
 use Rattle.wire.specs.declared.refusal.Fault.the-variants.{PastEnd, LeftOver, BadFlags, NotCarried, Repeated}
 use Rattle.wire.specs.declared.refusal.Slice.the-variants.{Scylla}

@@ -1,7 +1,7 @@
 -- The bodies of features, extension attributes and run identifier (tags 2, 3 and 4), each filled exactly. Assumes nothing.
 use Prim.Native.Nat.{ℕ, _+_}
 use Rattle.wire.specs.Got.{Got, got, bad, on, Reader, _>>=_, filled}
-use Rattle.wire.specs.BigEndian.{fixedAt}
+use Rattle.fixed.specs.BigEndian.{fixedAt}
 use Rattle.sharding.specs.Regions.{lengthAt, times}
 use Rattle.scylla.specs.declared.body.Uuid.{Uuid}
 use Rattle.scylla.specs.declared.body.RunAnswer.{RunAnswer}

@@ -7,7 +7,7 @@ use lib.ListN.{length}
 use Rattle.wire.specs.Choose.{pick}
 use Rattle.wire.specs.Got.{Got, got, bad, on, Reader, _>>=_, filled, within}
 use Rattle.wire.specs.Refusals.{Outcome, taken, refused, saidRefusal}
-use Rattle.wire.specs.BigEndian.{fixedAt}
+use Rattle.fixed.specs.BigEndian.{fixedAt}
 use Rattle.wire.specs.declared.refusal.Fault.the-variants.{OverLimit, Repeated}
 use Rattle.wire.specs.declared.refusal.Slice.the-variants.{Scylla}
 use Rattle.sharding.specs.Regions.{lengthAt, times, passed}

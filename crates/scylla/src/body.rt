@@ -5,7 +5,6 @@ ghost use Rattle.sharding.specs.Regions.{times, saidPassed};
 ghost use Rattle.scylla.specs.Bodies.{featuresAt, stringAt, attributeAt, attributesAt, runAt, saidRun};
 use sharding::region;
 use sharding::region::Passed;
-use wire::number;
 use wire::number::Num;
 use wire::refusal::Fault;
 
@@ -24,7 +23,7 @@ pub enum RunAnswer {
 pub(crate) fn read_features(file: &[u8], at: usize, end: usize) -> Num
     ensures { λ r. ⌜ saidNum r ≡ featuresAt (now (file .entry)) at end ⌝ }
 {
-    match number::read(file, at, end, 8) {
+    match fixed::read(file, at, end, 8) {
         Num::Number { value, next } => {
             if next < end {
                 return Num::Refused {
@@ -82,7 +81,7 @@ fn skip_each(file: &[u8], count: u64, at: usize, end: usize) -> Passed
 pub(crate) fn skip_attributes(file: &[u8], at: usize, end: usize) -> Passed
     ensures { λ r. ⌜ saidPassed r ≡ attributesAt (now (file .entry)) at end ⌝ }
 {
-    match number::read(file, at, end, 4) {
+    match fixed::read(file, at, end, 4) {
         Num::Number { value, next } => match skip_each(file, value, next, end) {
             Passed::To(next) => {
                 if next < end {
@@ -103,8 +102,8 @@ pub(crate) fn skip_attributes(file: &[u8], at: usize, end: usize) -> Passed
 pub(crate) fn read_run(file: &[u8], at: usize, end: usize) -> RunAnswer
     ensures { λ r. ⌜ saidRun r ≡ runAt (now (file .entry)) at end ⌝ }
 {
-    match number::read(file, at, end, 8) {
-        Num::Number { value: high, next } => match number::read(file, next, end, 8) {
+    match fixed::read(file, at, end, 8) {
+        Num::Number { value: high, next } => match fixed::read(file, next, end, 8) {
             Num::Number { value: low, next } => {
                 if next < end {
                     return RunAnswer::Refused {

@@ -8,7 +8,6 @@ use crate::body::RunAnswer;
 use crate::body::Uuid;
 use sharding::region;
 use sharding::region::Passed;
-use wire::number;
 use wire::number::Num;
 use wire::refusal::Fault;
 
@@ -73,7 +72,7 @@ fn is_seen(c: Components, tag: u64) -> bool
 fn read_tag(file: &[u8], at: usize, end: usize, c: Components) -> Num
     ensures { λ r. ⌜ saidNum r ≡ tagAt c (now (file .entry)) at end ⌝ }
 {
-    match number::read(file, at, end, 4) {
+    match fixed::read(file, at, end, 4) {
         Num::Number { value, next } => {
             if is_seen(c, value) {
                 return Num::Refused {

@@ -9,7 +9,6 @@ pub mod component; // component.rt: one component
 
 use component::Components;
 use component::ComponentsAnswer;
-use wire::number;
 use wire::number::Num;
 use wire::refusal::Fault;
 use wire::refusal::Refusal;
@@ -51,7 +50,7 @@ fn read_file(file: &[u8]) -> ComponentsAnswer
     ensures { λ r. ⌜ saidComponents r ≡ fileAt (now (file .entry)) 0 (length (now (file .entry))) ⌝ }
 {
     let end = file.len();
-    match number::read(file, 0, end, 4) {
+    match fixed::read(file, 0, end, 4) {
         Num::Number { value, next } => match read_components(file, value, next, end) {
             ComponentsAnswer::Read { components, next } => {
                 if next < end {

@@ -5,7 +5,7 @@ use lib.Dec.{ltb, eqb}
 use Rattle.wire.specs.Choose.{pick}
 use Rattle.wire.specs.Times.{biased}
 use Rattle.wire.specs.Got.{Got, got, bad, on, Reader, _>>=_, ret}
-use Rattle.wire.specs.BigEndian.{fixedAt}
+use Rattle.fixed.specs.BigEndian.{fixedAt}
 use Rattle.wire.specs.declared.refusal.Fault.the-variants.{BadFlags, NotCarried}
 use Rattle.sharding.specs.Regions.{lengthAt}
 use Rattle.sharding.specs.declared.bound.Bound.{Bound}

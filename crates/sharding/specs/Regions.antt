@@ -4,7 +4,7 @@ use mathlib.Core.List.{List}
 use lib.Dec.{ltb}
 use Rattle.wire.specs.Choose.{pick}
 use Rattle.wire.specs.Got.{Got, got, bad, on, Reader, _>>=_, ret}
-use Rattle.wire.specs.BigEndian.{fixedAt}
+use Rattle.fixed.specs.BigEndian.{fixedAt}
 use Rattle.wire.specs.declared.refusal.Fault.the-variants.{PastEnd}
 use Rattle.sharding.specs.declared.region.Passed.{Passed}
 use Rattle.sharding.specs.declared.region.Passed.the-variants.{To, Refused}

@@ -3,7 +3,6 @@ ghost use mathlib.Core.Path.{_≡_};
 ghost use Rattle.wire.specs.Got.{saidNum};
 ghost use Rattle.sharding.specs.Bounds.{saidBound, flagAt, tokenAt, boundAt, bothInclusive, isRange, isNext};
 use crate::region;
-use wire::number;
 use wire::number::Num;
 use wire::refusal::Fault;
 use wire::times;
@@ -26,7 +25,7 @@ pub enum BoundAnswer {
 fn read_flag(file: &[u8], at: usize, end: usize) -> Num
     ensures { λ r. ⌜ saidNum r ≡ flagAt (now (file .entry)) at end ⌝ }
 {
-    match number::read(file, at, end, 1) {
+    match fixed::read(file, at, end, 1) {
         Num::Number { value, next } => {
             if 1 < value {
                 return Num::Refused {
@@ -47,7 +46,7 @@ fn read_token(file: &[u8], at: usize, end: usize) -> Num
     match region::read_length(file, at, end, 2) {
         Num::Number { value, next } => {
             if value == 8 {
-                return match number::read(file, next, end, 8) {
+                return match fixed::read(file, next, end, 8) {
                     Num::Number { value, next } => Num::Number {
                         value: times::biased_of(value),
                         next,

@@ -10,7 +10,6 @@ pub mod bound; // bound.rt: bounds of token ranges
 use bound::Bound;
 use bound::BoundAnswer;
 use region::Passed;
-use wire::number;
 use wire::number::Num;
 use wire::refusal::Fault;
 
@@ -92,7 +91,7 @@ fn read_ranges(file: &[u8], count: u64, at: usize, end: usize) -> BoundAnswer
 pub fn read(file: &[u8], at: usize, end: usize) -> Passed
     ensures { λ q. ⌜ saidPassed q ≡ passed (shardingAt (now (file .entry)) at end) ⌝ }
 {
-    match number::read(file, at, end, 4) {
+    match fixed::read(file, at, end, 4) {
         Num::Number { value, next } => match read_ranges(file, value, next, end) {
             BoundAnswer::Read { bound: _, next } => {
                 if next < end {

@@ -2,7 +2,6 @@
 ghost use mathlib.Core.Path.{_≡_};
 ghost use Rattle.wire.specs.Got.{saidNum};
 ghost use Rattle.sharding.specs.Regions.{lengthAt};
-use wire::number;
 use wire::number::Num;
 use wire::refusal::Fault;
 
@@ -17,7 +16,7 @@ pub enum Passed {
 pub fn read_length(s: &[u8], at: usize, end: usize, width: usize) -> Num
     ensures { λ r. ⌜ saidNum r ≡ lengthAt width (now (s .entry)) at end ⌝ }
 {
-    match number::read(s, at, end, width) {
+    match fixed::read(s, at, end, width) {
         Num::Number { value, next } => {
             if ((end - next) as u64) < value {
                 return Num::Refused {

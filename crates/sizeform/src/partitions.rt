@@ -4,12 +4,11 @@ ghost use Prim.Native.Nat.{_+_, _≤_};
 ghost use mathlib.Core.List.{_++_};
 ghost use lib.ListN.{length};
 ghost use Rattle.wire.specs.Store.{Room, Puts, part, shown};
-ghost use Rattle.wire.specs.BigEndian.{bytesOf};
+ghost use Rattle.fixed.specs.BigEndian.{bytesOf};
 ghost use Rattle.wire.specs.Times.{biased};
 ghost use Rattle.forms.specs.Partitions.{headerLocal, deletedBytes, headBytes};
 use cell::fields::Deletion;
 use cell::fields::Span;
-use wire::number;
 use wire::part;
 use wire::times;
 
@@ -26,14 +25,14 @@ fn put_local(d: &mut [u8], at: usize, deletion: Deletion) -> usize
     requires { ⌜ Room (now d) at (bytesOf (headerLocal deletion) 4) ⌝ }
     ensures { λ r. ⌜ Puts (now (d .entry)) (now (d .exit)) at (bytesOf (headerLocal deletion) 4) r ⌝ }
 {
-    number::put_in(d, at, 4, header_local(deletion))
+    fixed::put_in(d, at, 4, header_local(deletion))
 }
 
 fn put_mark(d: &mut [u8], at: usize, mark: u64) -> usize
     requires { ⌜ Room (now d) at (bytesOf (biased mark) 8) ⌝ }
     ensures { λ r. ⌜ Puts (now (d .entry)) (now (d .exit)) at (bytesOf (biased mark) 8) r ⌝ }
 {
-    number::put_in(d, at, 8, times::biased_of(mark))
+    fixed::put_in(d, at, 8, times::biased_of(mark))
 }
 
 // The local deletion time and the mark.
@@ -69,6 +68,6 @@ pub fn put_header(d: &mut [u8], at: usize, bytes: &[u8], key: Span, deletion: De
 {
     let start = key.start;
     let len = key.len;
-    let p = number::put_in(d, at, 2, len as u64);
+    let p = fixed::put_in(d, at, 2, len as u64);
     put_key(d, p, bytes, start, len, deletion)
 }

@@ -4,7 +4,6 @@ ghost use Prim.Native.Nat.{_≤_};
 ghost use lib.ListN.{length};
 ghost use Rattle.wire.specs.Store.{Room, Puts};
 ghost use Rattle.rowform.specs.Parts.{headerForm};
-use wire::varint;
 
 // How many bytes the header of count clustering values has.
 // Internal: for the writer, which measures before it stores.
@@ -14,7 +13,7 @@ pub fn header_len(count: u64, header: u64) -> u64
     if count == 0 {
         return 0;
     }
-    varint::len(header) as u64
+    varints::len(header) as u64
 }
 
 // Stores the header of count clustering values: the place after it.
@@ -24,7 +23,7 @@ pub fn put_header_of(d: &mut [u8], at: usize, count: u64, header: u64) -> usize
     ensures { λ r. ⌜ Puts (now (d .entry)) (now (d .exit)) at (headerForm count header) r ⌝ }
 {
     if count != 0 {
-        return varint::put_in(d, at, header);
+        return varints::put_in(d, at, header);
     }
     at
 }

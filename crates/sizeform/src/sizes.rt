@@ -3,20 +3,19 @@ ghost use mathlib.Core.Path.{_≡_};
 ghost use Prim.Native.Nat.{_+_, _≤_};
 ghost use mathlib.Core.List.{[], _∷_};
 ghost use lib.ListN.{length};
-ghost use Rattle.wire.specs.Varints.{shortest};
+ghost use Rattle.varints.specs.Varints.{shortest};
 ghost use Rattle.wire.specs.Store.{Room, Puts};
 ghost use Rattle.forms.specs.Rows.{rowFlags};
 ghost use Rattle.rowform.specs.Parts.{bodySize, sizesForm, allThere};
 use cell::cells::Times;
 use cell::fields::Deletion;
 use deltas::numbers;
-use wire::varint;
 
 // The length of the shortest varint of x.
 fn size_len(x: u64) -> u64
     ensures { λ r. ⌜ (r ≡ length (shortest x)) × (r ≤ 9) ⌝ }
 {
-    varint::len(x) as u64
+    varints::len(x) as u64
 }
 
 // The body size where n bytes follow the sizes.
@@ -44,7 +43,7 @@ fn put_body_size(d: &mut [u8], at: usize, previous: u64, n: u64) -> usize
     requires { ⌜ (n ≤ 4611686018427387904) × Room (now d) at (shortest (bodySize previous n)) ⌝ }
     ensures { λ r. ⌜ Puts (now (d .entry)) (now (d .exit)) at (shortest (bodySize previous n)) r ⌝ }
 {
-    varint::put_in(d, at, body_size(previous, n))
+    varints::put_in(d, at, body_size(previous, n))
 }
 
 // Stores both sizes, where n bytes follow them: the place after them.
@@ -54,7 +53,7 @@ pub fn put_sizes(d: &mut [u8], at: usize, previous: u64, n: u64) -> usize
     ensures { λ r. ⌜ Puts (now (d .entry)) (now (d .exit)) at (sizesForm previous n) r ⌝ }
 {
     let p = put_body_size(d, at, previous, n);
-    varint::put_in(d, p, previous)
+    varints::put_in(d, p, previous)
 }
 
 // 1 where no column is missing.

@@ -8,7 +8,7 @@ use lib.ListN.{length}
 use Rattle.wire.specs.Got.{Got, got, bad, saidNum}
 use Rattle.wire.specs.Refusals.{faultNumber, sliceNumber, Outcome, taken, refused}
 use Rattle.wire.specs.Store.{Room, Puts}
-use Rattle.wire.specs.Varints.{shortest, varintAt}
+use Rattle.varints.specs.Varints.{shortest, varintAt}
 use Rattle.wire.specs.declared.refusal.Fault.{Fault}
 use Rattle.wire.specs.declared.refusal.Slice.{Slice}
 use Rattle.wire.specs.declared.refusal.Fault.the-variants.{OverLimit, NoRoom}

@@ -8,7 +8,7 @@ use Rattle.wire.specs.Choose.{pick}
 use Rattle.wire.specs.Got.{Got, got, bad}
 use Rattle.wire.specs.Refusals.{Outcome, taken, refused}
 use Rattle.wire.specs.Store.{splice}
-use Rattle.wire.specs.Varints.{varintAt, shortest}
+use Rattle.varints.specs.Varints.{varintAt, shortest}
 use Rattle.wire.specs.declared.refusal.Fault.the-variants.{OverLimit, NoRoom}
 use Rattle.wire.specs.declared.refusal.Slice.{Slice}
 use Rattle.wire.specs.declared.refusal.Slice.the-variants.{Data, Output}

@@ -1,7 +1,7 @@
 // Varints, for C.
 ghost use mathlib.Core.Path.{_≡_};
 ghost use lib.ListN.{length};
-ghost use Rattle.wire.specs.Varints.{shortest};
+ghost use Rattle.varints.specs.Varints.{shortest};
 ghost use Rattle.sstable.specs.Varints.{varintRead, VarintPut};
 use wire::number::Num;
 use wire::refusal;
@@ -13,7 +13,7 @@ fn read_words(bytes: &[u8], at: usize, end: usize) -> [u64; 5]
     if 1073741824 < bytes.len() {
         return [1, 3, 0, 0, 0];
     }
-    match wire::varint::read(bytes, at, end) {
+    match varints::read(bytes, at, end) {
         Num::Number { value, next } => [0, 0, 0, value, next as u64],
         Num::Refused { fault, place } => [
             refusal::fault_number(fault) as u64,
@@ -38,7 +38,7 @@ pub extern "C" fn sstable_varint_read(bytes: &[u8], at: usize, end: usize, answe
 pub extern "C" fn sstable_varint_len(value: u64) -> usize
     ensures { λ r. ⌜ r ≡ length (shortest value) ⌝ }
 {
-    wire::varint::len(value)
+    varints::len(value)
 }
 
 // Stores the shortest varint of value at the start of out.
@@ -48,11 +48,11 @@ fn put_words(out: &mut [u8], value: u64) -> [u64; 4]
     if 1073741824 < out.len() {
         return [1, 7, 0, 0];
     }
-    let len = wire::varint::len(value);
+    let len = varints::len(value);
     if out.len() < len {
         return [13, 7, len as u64, 0];
     }
-    let next = wire::varint::put_in(out, 0, value);
+    let next = varints::put_in(out, 0, value);
     [0, 0, 0, next as u64]
 }
 

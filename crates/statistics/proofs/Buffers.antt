@@ -8,9 +8,9 @@ use native.Mathlib.Numerals.{add-one}
 use native.Mathlib.Decide.{decLt}
 use lib.ListN.{length, getD, length-append, List·getD-append}
 use lib.Seq.{getD-append-add}
-use Rattle.wire.specs.BigEndian.{bigEndian, bytesOf}
+use Rattle.fixed.specs.BigEndian.{bigEndian, bytesOf}
 use Rattle.wire.specs.Store.{Room, Puts}
-use Rattle.wire.proofs.BigEndian.{length-bytesOf, spelled-back, be-agrees}
+use Rattle.fixed.proofs.BigEndian.{length-bytesOf, spelled-back, be-agrees}
 use Rattle.wire.proofs.Splices.{getD-before}
 use Rattle.wire.proofs.Puts.{puts-same}
 use Rattle.wire.proofs.Stands.{Stands, stands-left, stands-right, stands-put}

@@ -10,7 +10,7 @@ use lib.Dec.{ltb}
 use lib.ListN.{length, getD}
 use Rattle.wire.specs.Choose.{pick}
 use Rattle.wire.specs.Got.{Got, got, bad, on, saidNum}
-use Rattle.wire.specs.BigEndian.{bigEndian}
+use Rattle.fixed.specs.BigEndian.{bigEndian}
 use Rattle.wire.specs.Store.{Room, Puts, shown}
 use Rattle.wire.specs.declared.refusal.Fault.{Fault}
 use Rattle.wire.specs.declared.number.Num.{Num}
@@ -19,7 +19,7 @@ use Rattle.wire.proofs.Choose.{pick-yes, pick-no}
 use Rattle.wire.proofs.Gives.{Gives, gives-on, gives-got, gives-bad, gives-pick, gives-bind, gives-is}
 use Rattle.wire.proofs.RoundTrip.{Reads}
 use Rattle.wire.proofs.Puts.{puts-same}
-use Rattle.wire.proofs.Varints.{varint-ends}
+use Rattle.varints.proofs.Varints.{varint-ends}
 use Rattle.wire.proofs.Said.{on-num, on-num-bad, num-got}
 use Rattle.typetable.specs.Text.{same}
 use Rattle.schema.specs.Records.{roleAt, nameAt, nameLenAt, mostOf}

@@ -6,9 +6,9 @@ use native.Mathlib.Omega.{arith}
 use lib.ListN.{length, set, length-append, length-set}
 use mir.Syntax.{w64}
 use mir.Val.{Fits}
-use Rattle.wire.specs.BigEndian.{bytesOf}
+use Rattle.fixed.specs.BigEndian.{bytesOf}
 use Rattle.wire.specs.Store.{Room, Puts, splice}
-use Rattle.wire.proofs.BigEndian.{length-bytesOf}
+use Rattle.fixed.proofs.BigEndian.{length-bytesOf}
 use Rattle.wire.proofs.Splices.{splice-cons}
 use Rattle.wire.proofs.Puts.{puts-none}
 use Rattle.schema.specs.declared.columns.Column.{Column}

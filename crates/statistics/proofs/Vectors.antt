@@ -6,10 +6,10 @@ use Prim.Native.Nat.{ℕ}
 use lib.ListN.{length}
 use Rattle.wire.specs.Choose.{pick, bind}
 use Rattle.wire.specs.Got.{Got, got, bad, on}
-use Rattle.wire.specs.BigEndian.{bigEndian, bytesOf}
+use Rattle.fixed.specs.BigEndian.{bigEndian, bytesOf}
 use Rattle.wire.specs.Store.{part, shown}
 use Rattle.wire.specs.Times.{biased}
-use Rattle.wire.specs.Varints.{leading, low, varintAt}
+use Rattle.varints.specs.Varints.{leading, low, varintAt}
 use Rattle.wire.specs.declared.refusal.Fault.{Fault}
 use Rattle.wire.specs.declared.refusal.Fault.the-variants.{PastEnd, LeftOver, OutOfRange, NotCarried, TooMany, Repeated}
 use Rattle.typetable.specs.Text.{same, among}

@@ -5,7 +5,7 @@ use lib.Dec.{ltb}
 use Rattle.wire.specs.Choose.{pick, bind}
 use Rattle.wire.specs.Got.{Got, got, bad, on, Reader, _>>=_, ret}
 use Rattle.wire.specs.Times.{biased}
-use Rattle.wire.specs.Varints.{varintAt}
+use Rattle.varints.specs.Varints.{varintAt}
 use Rattle.wire.specs.declared.refusal.Fault.the-variants.{OutOfRange}
 use Rattle.wire.specs.declared.times.Bases.{Bases}
 

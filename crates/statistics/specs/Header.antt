@@ -6,9 +6,9 @@ use mathlib.Core.List.{List, [], _∷_, _++_}
 use lib.Dec.{ltb}
 use Rattle.wire.specs.Choose.{pick, bind}
 use Rattle.wire.specs.Got.{Got, got, bad, on, Reader, _>>=_, ret, when, filled}
-use Rattle.wire.specs.BigEndian.{bytesOf}
+use Rattle.fixed.specs.BigEndian.{bytesOf}
 use Rattle.wire.specs.Store.{shown}
-use Rattle.wire.specs.Varints.{varintAt}
+use Rattle.varints.specs.Varints.{varintAt}
 use Rattle.wire.specs.declared.refusal.Fault.the-variants.{PastEnd, TooMany, Repeated}
 use Rattle.wire.specs.declared.times.Bases.{Bases}
 use Rattle.typetable.specs.Table.{lineOf}

@@ -7,7 +7,6 @@ use wire::number::Num;
 use wire::refusal::Fault;
 use wire::times;
 use wire::times::Bases;
-use wire::varint;
 
 pub enum Times {
     // The bases, and the place after them.
@@ -19,7 +18,7 @@ pub enum Times {
 fn timestamp(s: &[u8], at: usize, end: usize) -> Num
     ensures { λ r. ⌜ saidNum r ≡ timestampAt (now (s .entry)) at end ⌝ }
 {
-    match varint::read(s, at, end) {
+    match varints::read(s, at, end) {
         Num::Number { value, next } => {
             let sum = std::num::wrapping_add_u64(1442880000000000, value);
             Num::Number {
@@ -41,7 +40,7 @@ fn local_of(v: u64) -> u64
 fn local(s: &[u8], at: usize, end: usize) -> Num
     ensures { λ r. ⌜ saidNum r ≡ localAt (now (s .entry)) at end ⌝ }
 {
-    match varint::read(s, at, end) {
+    match varints::read(s, at, end) {
         Num::Number { value, next } => {
             let sum = local_of(value);
             if 2147483647 < sum {
@@ -59,7 +58,7 @@ fn local(s: &[u8], at: usize, end: usize) -> Num
 fn ttl(s: &[u8], at: usize, end: usize) -> Num
     ensures { λ r. ⌜ saidNum r ≡ ttlAt (now (s .entry)) at end ⌝ }
 {
-    match varint::read(s, at, end) {
+    match varints::read(s, at, end) {
         Num::Number { value, next } => {
             if 2147483647 < value {
                 return Num::Refused {

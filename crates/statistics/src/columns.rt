@@ -14,11 +14,9 @@ ghost use Rattle.typetable.specs.Text.{same};
 use schema::columns::Column;
 use types::Kind;
 use types::Typed;
-use wire::number;
 use wire::number::Num;
 use wire::part;
 use wire::refusal::Fault;
-use wire::varint;
 
 // Where a name stands.
 pub struct Name {
@@ -68,7 +66,7 @@ fn most_of(role: u8) -> u64
 fn count(s: &[u8], at: usize, end: usize, role: u8) -> Num
     ensures { λ r. ⌜ saidNum r ≡ countAt role (now (s .entry)) at end ⌝ }
 {
-    match varint::read(s, at, end) {
+    match varints::read(s, at, end) {
         Num::Number { value, next } => {
             if most_of(role) < value {
                 return Num::Refused {
@@ -99,8 +97,8 @@ fn put_place(d: &mut [u8], at: usize, c: Column) -> usize
     requires { ⌜ Room (now d) at (placeOf c) ⌝ }
     ensures { λ r. ⌜ Puts (now (d .entry)) (now (d .exit)) at (placeOf c) r ⌝ }
 {
-    let next = number::put_in(d, at, 4, c.name);
-    number::put_in(d, next, 4, c.len)
+    let next = fixed::put_in(d, at, 4, c.name);
+    fixed::put_in(d, next, 4, c.len)
 }
 
 // Stores what follows the first four bytes.
@@ -109,7 +107,7 @@ fn put_tail(d: &mut [u8], at: usize, c: Column) -> usize
     ensures { λ r. ⌜ Puts (now (d .entry)) (now (d .exit)) at (tailOf c) r ⌝ }
 {
     let next = put_place(d, at, c);
-    number::put_in(d, next, 4, 0)
+    fixed::put_in(d, next, 4, 0)
 }
 
 // Stores a column's record.
@@ -140,8 +138,8 @@ fn has_name(s: &[u8], d: &[u8], at: usize, start: usize, len: usize) -> bool
     requires { ⌜ at + 16 ≤ length (now d) ⌝ }
     ensures { λ r. ⌜ r ≡ same (nameOf (now (s .entry)) (now (d .entry)) at) (shown (now (s .entry)) start len) ⌝ }
 {
-    let from = number::big_endian(d, at + 4, 4, 0);
-    let size = number::big_endian(d, at + 8, 4, 0);
+    let from = fixed::big_endian(d, at + 4, 4, 0);
+    let size = fixed::big_endian(d, at + 8, 4, 0);
     typetable::text::equal(
         part::shown_in(s, from as usize, size as usize),
         part::shown_in(s, start, len),
@@ -173,7 +171,7 @@ fn read_name(s: &[u8], at: usize, end: usize, d: &[u8], k: usize) -> Named
     requires { ⌜ 16 * k ≤ length (now d) ⌝ }
     ensures { λ r. ⌜ saidNamed r ≡ nameAt (columnsFrom (now (d .entry)) 0 k) (now (s .entry)) at end ⌝ }
 {
-    match varint::read(s, at, end) {
+    match varints::read(s, at, end) {
         Num::Number { value, next } => {
             if ((end - next) as u64) < value {
                 return Named::Refused {

@@ -8,10 +8,10 @@ use native.Mathlib.Omega.{arith}
 use borrow.Author.Tests.{le-ltb}
 use lib.ListN.{length, getD}
 use Rattle.wire.specs.Choose.{pick, bind}
-use Rattle.wire.specs.BigEndian.{bigEndian, bytesOf}
+use Rattle.fixed.specs.BigEndian.{bigEndian, bytesOf}
 use Rattle.wire.specs.Times.{biased}
 use Rattle.wire.specs.declared.times.Bases.{Bases}
-use Rattle.wire.proofs.BigEndian.{spelled-back}
+use Rattle.fixed.proofs.BigEndian.{spelled-back}
 use Rattle.wire.proofs.RoundTrip.{Reads, reads-got, reads-no, reads-to}
 use Rattle.wire.proofs.Stands.{Stands, stands-left, stands-right, stands-byte}
 use Rattle.cell.proofs.Ranges.{In}

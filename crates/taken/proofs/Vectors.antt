@@ -6,10 +6,10 @@ use lib.ListN.{take}
 use Rattle.wire.specs.Choose.{pick, bind}
 use Rattle.wire.specs.Got.{on, within}
 use Rattle.wire.specs.Refusals.{Outcome, taken, refused}
-use Rattle.wire.specs.BigEndian.{bigEndian, bytesOf}
+use Rattle.fixed.specs.BigEndian.{bigEndian, bytesOf}
 use Rattle.wire.specs.Store.{part, shown}
 use Rattle.wire.specs.Times.{biased}
-use Rattle.wire.specs.Varints.{form, extra, shortest}
+use Rattle.varints.specs.Varints.{form, extra, shortest}
 use Rattle.wire.specs.declared.refusal.Fault.the-variants.{OverLimit, OutOfRange, BadRecord, NoRoom}
 use Rattle.wire.specs.declared.refusal.Slice.the-variants.{Schema, Records, Output}
 use Rattle.wire.specs.declared.times.Bases.{Bases}

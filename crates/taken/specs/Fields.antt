@@ -6,7 +6,7 @@ use mathlib.Core.List.{List}
 use lib.Dec.{ltb, eqb}
 use lib.ListN.{getD}
 use Rattle.wire.specs.Choose.{pick}
-use Rattle.wire.specs.BigEndian.{bigEndian}
+use Rattle.fixed.specs.BigEndian.{bigEndian}
 use Rattle.wire.specs.Times.{biased}
 use Rattle.turns.specs.Turns.{isBoundary}
 use Rattle.items.specs.Items.{item, zeroed}

@@ -12,13 +12,13 @@ use lib.Seq.{take-all}
 use Rattle.wire.specs.Choose.{pick}
 use Rattle.wire.specs.Got.{Got, got, bad, on, saidNum}
 use Rattle.wire.specs.Store.{part}
-use Rattle.wire.specs.Varints.{leading, varintAt}
+use Rattle.varints.specs.Varints.{leading, varintAt}
 use Rattle.wire.specs.declared.number.Num.{Num}
 use Rattle.wire.specs.declared.number.Num.the-variants.{Number}
 use Rattle.wire.specs.declared.refusal.Fault.{Fault}
 use Rattle.wire.proofs.Choose.{pick-yes, pick-no, bind-self}
 use Rattle.wire.proofs.Puts.{length-part}
-use Rattle.wire.proofs.Varints.{varint-within, varint-inside}
+use Rattle.varints.proofs.Varints.{varint-within, varint-inside}
 use Rattle.types.specs.declared.Kind.{Kind}
 use Rattle.types.specs.declared.Typed.{Typed}
 use Rattle.types.specs.declared.Typed.the-variants.{Known as typed-known, Refused as typed-refused}

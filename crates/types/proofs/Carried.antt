@@ -19,7 +19,7 @@ use Rattle.typetable.proofs.Rows.{line-most, line-yes, line-range}
 use Rattle.types.specs.declared.Kind.{Kind}
 use Rattle.types.specs.Strings.{blank, ofName, past, upTo, named, Closed, closed, faulty, opened, tail, typed, behind, plain, lineWith, stringWith, held, typeOf, stringAt, typeAt}
 use Rattle.types.specs.Parts.{lineNamed}
-use Rattle.wire.proofs.Varints.{varint-ends}
+use Rattle.varints.proofs.Varints.{varint-ends}
 
 -- a type that a column, key or clustering column may have: column where it is that of a static or regular column
 pub record Carried (column : Bool) (k : Kind) : Type 0 where

@@ -9,13 +9,13 @@ use lib.Dec.{T, eqb, leb, eqb→eq, leb→le}
 use lib.ListN.{length}
 use Rattle.wire.specs.Choose.{pick, bind}
 use Rattle.wire.specs.Got.{Got, got, bad}
-use Rattle.wire.specs.Varints.{shortest}
+use Rattle.varints.specs.Varints.{shortest}
 use Rattle.wire.specs.Store.{part}
 use Rattle.wire.proofs.Choose.{pick-no}
 use Rattle.wire.proofs.Finite.{implies, allBelow, below-at}
 use Rattle.wire.proofs.RoundTrip.{Reads, reads-at, reads-no}
 use Rattle.wire.proofs.Stands.{Stands, stands-left, stands-right, stands-part}
-use Rattle.wire.proofs.Varints.{varint-back}
+use Rattle.varints.proofs.Varints.{varint-back}
 use Rattle.typetable.specs.Text.{text, same, among}
 use Rattle.typetable.specs.Table.{table, lineIn, nth, lineOf}
 use Rattle.typetable.proofs.Texts.{first-passes, then-passes}

@@ -7,7 +7,6 @@ ghost use Rattle.types.specs.Strings.{saidTyped, typeAt};
 use crate::string::Parsed;
 use wire::number::Num;
 use wire::refusal::Fault;
-use wire::varint;
 
 // A column's type: its line in 001's table from 1 (under Reversed, its parameter's), and 1 where it is reversed.
 pub struct Kind {
@@ -25,7 +24,7 @@ pub enum Typed {
 pub fn read(s: &[u8], at: usize, end: usize, column: bool) -> Typed
     ensures { λ r. ⌜ saidTyped r ≡ typeAt column (now (s .entry)) at end ⌝ }
 {
-    match varint::read(s, at, end) {
+    match varints::read(s, at, end) {
         Num::Number { value, next } => {
             if ((end - next) as u64) < value {
                 return Typed::Refused {

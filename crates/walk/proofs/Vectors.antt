@@ -8,8 +8,8 @@ use lib.Count.{trailingZeros}
 use Rattle.wire.specs.Choose.{pick, bind}
 use Rattle.wire.specs.Got.{on, within}
 use Rattle.wire.specs.Refusals.{taken, refused}
-use Rattle.wire.specs.BigEndian.{bigEndian, fixedAt}
-use Rattle.wire.specs.Varints.{leading, low, varintAt}
+use Rattle.fixed.specs.BigEndian.{bigEndian, fixedAt}
+use Rattle.varints.specs.Varints.{leading, low, varintAt}
 use Rattle.wire.specs.declared.refusal.Fault.the-variants.{PastEnd, LeftOver, BadRecord, OutOfRange}
 use Rattle.wire.specs.declared.refusal.Slice.the-variants.{Data, Schema, State, Bases as bases-slice}
 use Rattle.wire.specs.declared.times.Bases.{Bases}

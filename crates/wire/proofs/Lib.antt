@@ -8,11 +8,3 @@ pub mod Gives
 pub mod Splices
 pub mod Puts
 pub mod Stands
--- Numbers in bytes; lists of bytes up to a length (Within).
-pub mod BigEndian
-pub mod Marker
-pub mod Swaps
-pub mod Shortest
-pub mod Within
-pub mod Varints
-pub mod Vectors

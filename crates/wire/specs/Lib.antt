@@ -2,6 +2,4 @@ pub mod Choose
 pub mod Refusals
 pub mod Got
 pub mod Store
-pub mod BigEndian
-pub mod Varints
 pub mod Times

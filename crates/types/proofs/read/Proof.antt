@@ -1,7 +1,7 @@
 use Rattle.types.specs.Strings.{typeAt}
 use Rattle.wire.proofs.Said.{reading}
 use Rattle.types.proofs.Answers.{strings, string-inside}
-use Rattle.wire.proofs.Varints.{varint-within}
+use Rattle.varints.proofs.Varints.{varint-within}
 use Rattle.wire.proofs.Choose.{cases}
 use borrow.Author.Needs.{needs}
 use Rattle.types.proofs.read.Statement.{statement}

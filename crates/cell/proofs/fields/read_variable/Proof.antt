@@ -2,7 +2,7 @@ use Rattle.wire.proofs.Choose.{cases}
 use Rattle.wire.proofs.Said.{reading}
 use Rattle.cell.proofs.Said.{answers}
 use Rattle.cell.specs.Fields.{variableAt}
-use Rattle.wire.proofs.Varints.{varint-within}
+use Rattle.varints.proofs.Varints.{varint-within}
 use borrow.Author.Needs.{needs}
 use Rattle.cell.proofs.fields.read_variable.Statement.{statement}
 use Rattle.cell.proofs.fields.read_variable.Tie as tie

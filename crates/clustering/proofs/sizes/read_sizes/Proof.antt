@@ -1,6 +1,6 @@
 use Rattle.wire.proofs.Choose.{cases}
 use Rattle.wire.proofs.Said.{reading}
-use Rattle.wire.proofs.Varints.{varint-within}
+use Rattle.varints.proofs.Varints.{varint-within}
 use Rattle.clustering.specs.Sizes.{sizesAt}
 use borrow.Author.Needs.{needs}
 use Rattle.clustering.proofs.sizes.read_sizes.Statement.{statement}

@@ -1,4 +1,4 @@
-use Rattle.wire.proofs.BigEndian.{fixed-within}
+use Rattle.fixed.proofs.BigEndian.{fixed-within}
 use Rattle.wire.proofs.Choose.{cases, told}
 use Rattle.wire.proofs.Said.{reading}
 use Rattle.entries.proofs.Said.{answers}

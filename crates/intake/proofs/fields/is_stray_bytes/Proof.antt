@@ -7,7 +7,7 @@ use Rattle.intake.proofs.fields.is_stray_bytes.Tie as tie
 use Rattle.intake.proofs.fields.is_stray_bytes.Reads as reads
 use Rattle.intake.proofs.fields.is_stray_bytes.Lts as lts
 use Rattle.intake.proofs.fields.wide.Reads as wide-reads
-use Rattle.wire.proofs.number.big_endian.Reads as big-endian-reads
+use Rattle.fixed.proofs.big_endian.Reads as big-endian-reads
 
 -- src/fields.rt:21:19
 add-wide : tie.Need-add-wide

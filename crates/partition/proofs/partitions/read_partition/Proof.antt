@@ -3,7 +3,7 @@ use Rattle.wire.proofs.Said.{reading}
 use Rattle.partition.proofs.Said.{answers}
 use Rattle.cell.proofs.Said.{answers as fields}
 use Rattle.partition.specs.Partitions.{partitionAt}
-use Rattle.wire.proofs.BigEndian.{fixed-within}
+use Rattle.fixed.proofs.BigEndian.{fixed-within}
 use borrow.Author.Needs.{needs}
 use Rattle.partition.proofs.partitions.read_partition.Statement.{statement}
 use Rattle.partition.proofs.partitions.read_partition.Tie as tie

@@ -5,7 +5,7 @@ use Rattle.recorded.proofs.fields.signed_at.Tie as tie
 use Rattle.recorded.proofs.fields.signed_at.Reads as reads
 use Rattle.recorded.proofs.fields.signed_at.Lts as lts
 use Rattle.recorded.proofs.fields.word_at.Reads as word-at-reads
-use Rattle.wire.proofs.number.big_endian.Reads as big-endian-reads
+use Rattle.fixed.proofs.big_endian.Reads as big-endian-reads
 use Rattle.wire.proofs.times.biased_of.Reads as biased-of-reads
 
 -- src/fields.rt:48:9

@@ -2,7 +2,7 @@ use Rattle.wire.proofs.Choose.{cases, told}
 use Rattle.wire.proofs.Said.{reading}
 use Rattle.statistics.proofs.Said.{answers, column-made}
 use Rattle.statistics.specs.Header.{nameAt}
-use Rattle.wire.proofs.Varints.{varint-within}
+use Rattle.varints.proofs.Varints.{varint-within}
 use borrow.Author.Needs.{needs}
 use Rattle.statistics.proofs.columns.read_name.Statement.{statement}
 use Rattle.statistics.proofs.columns.read_name.Tie as tie
