@@ -12,7 +12,7 @@ use Rattle.wire.specs.Times.{biased}
 use Rattle.varints.specs.Varints.{leading, low, varintAt}
 use Rattle.wire.specs.declared.times.Bases.{Bases}
 use Rattle.varints.proofs.Vectors.{Spells, vectors}
-use Rattle.typetable.specs.Text.{text, same, among}
+use Rattle.texts.specs.Text.{text, same, among}
 use Rattle.typetable.specs.Table.{table, lineIn, nth, isLine}
 use Rattle.typetable.specs.Table.{lineOf as typeLine}
 use Rattle.types.specs.Strings.{blank, alphanumeric, ofName, ofParameters, past, upTo, named, inside, opened, tail, typed, behind, plain, lineWith, stringWith, held, typeOf, stringAt, typeAt}
@@ -22,7 +22,7 @@ use Rattle.schema.specs.Records.{nameAt as recordNameAt}
 use Rattle.entries.specs.Contents.{offsetOf, withEntry, used, entryTypeAt, offsetAt, pairsAt, present, nearer, endOf}
 use Rattle.entries.specs.Contents.{contentsAt as entryContentsAt}
 use Rattle.entries.specs.Contents.{countAt as entryCountAt}
-use Rattle.entries.specs.Validation.{chanceOf, chanceAt, validationAt}
+use Rattle.validation.specs.Validation.{chanceOf, chanceAt, validationAt}
 use Rattle.statistics.specs.Bases.{timestampAt, localOf, localAt, ttlAt, basesAt}
 use Rattle.statistics.specs.Header.{countAt, isNamed, nameAt, typedAt, namedAt, columnAt, columnsAt, groupAt, groupsAt, headOf, placeOf, tailOf, recordOf, recordsOf}
 use Rattle.statistics.specs.Header.{headerAt as statisticsHeaderAt}

@@ -1,3 +1,2 @@
-// Statistics' contents and the validation entry.
+// Statistics' contents.
 pub mod contents; // contents.rt: which entries there are, and where
-pub mod validation; // validation.rt: entry 0

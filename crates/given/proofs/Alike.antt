@@ -13,8 +13,8 @@ use lib.Seq.{getD-append-add}
 use Rattle.wire.specs.Choose.{pick}
 use Rattle.fixed.specs.BigEndian.{bigEndian, bytesOf}
 use Rattle.schema.specs.Records.{roleAt, lineAt, markAt, widthAt, nameAt, nameLenAt, zerosAt}
-use Rattle.schema.specs.Columns.{columnAt}
-use Rattle.schema.specs.declared.columns.Column.{Column}
+use Rattle.column.specs.Columns.{columnAt}
+use Rattle.column.specs.declared.Column.{Column}
 use Rattle.statistics.specs.Header.{headOf, placeOf, tailOf, recordOf, recordsOf}
 use Rattle.statistics.specs.Buffer.{columnsFrom}
 use Rattle.statistics.proofs.Records.{length-head, length-place, length-record, length-records}

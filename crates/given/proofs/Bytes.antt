@@ -12,11 +12,11 @@ use Rattle.wire.proofs.Choose.{pick-ind}
 use Rattle.wire.proofs.Finite.{allBelow, below-at}
 use Rattle.varints.proofs.Within.{Within, append, wider, nothing, cons-byte, fixed-within, shortest-within}
 use Rattle.typetable.specs.Table.{table, noLine, nth, lineOf}
-use Rattle.typetable.proofs.Texts.{first-passes, then-passes}
+use Rattle.texts.proofs.Texts.{first-passes, then-passes}
 use Rattle.types.specs.declared.Kind.{Kind}
-use Rattle.types.proofs.Carried.{Carried}
-use Rattle.types.proofs.Spelled.{spelled, typeBytes}
-use Rattle.schema.specs.declared.columns.Column.{Column}
+use Rattle.carried.proofs.Carried.{Carried}
+use Rattle.carried.proofs.Spelled.{spelled, typeBytes}
+use Rattle.column.specs.declared.Column.{Column}
 use Rattle.given.specs.Canonical.{letters, lettersOf, kindOf, columnBytes, columnsBytes, groupBytes, basesBytes, groupsBytes, headerBytes, contentsBytes, validationBytes, statisticsBytes}
 use Rattle.given.proofs.Records.{Every, empty, each}
 use Rattle.given.proofs.Columns.{Kinded}

@@ -12,10 +12,10 @@ use Rattle.wire.specs.Choose.{pick, bind}
 use Rattle.wire.proofs.Gives.{Gives, gives-on, gives-got, gives-bad, gives-pick}
 use Rattle.typetable.specs.Table.{Line, lineOf, noLine, isLine}
 use Rattle.typetable.proofs.Rows.{line-yes, none-at}
-use Rattle.types.proofs.Carried.{carried-is}
+use Rattle.carried.proofs.Carried.{carried-is}
 use Rattle.schema.specs.Records.{roleAt, lineAt, markAt, widthAt, nameAt, nameLenAt, zerosAt, isLineOf, isNameOf, isKindOf, given, none, inTurn, withOne, recordAt, recordsAt, schemaAt}
-use Rattle.schema.specs.Columns.{columnAt}
-use Rattle.schema.specs.declared.columns.Column.{Column}
+use Rattle.column.specs.Columns.{columnAt}
+use Rattle.column.specs.declared.Column.{Column}
 use Rattle.schema.specs.declared.records.Counts.{Counts}
 use Rattle.statistics.specs.Buffer.{columnsFrom}
 use Rattle.given.proofs.Records.{Every, empty, each, Turns, done, turn}

@@ -6,9 +6,9 @@ use Prim.Native.Nat.{ℕ, suc, _+_, _≤_, _<_}
 use native.Mathlib.Omega.{arith}
 use lib.ListN.{length}
 use Rattle.typetable.specs.Table.{lineOf}
-use Rattle.types.proofs.Carried.{Carried}
+use Rattle.carried.proofs.Carried.{Carried}
 use Rattle.schema.specs.Records.{withOne}
-use Rattle.schema.specs.declared.columns.Column.{Column}
+use Rattle.column.specs.declared.Column.{Column}
 use Rattle.schema.specs.declared.records.Counts.{Counts}
 use Rattle.given.specs.Canonical.{kindOf}
 use Rattle.given.proofs.Records.{Turns, done, turn}

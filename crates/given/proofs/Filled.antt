@@ -17,9 +17,9 @@ use Rattle.wire.proofs.Gives.{Gives, gives-on, gives-got, gives-bad, gives-pick
 use Rattle.varints.proofs.Varints.{varint-ends}
 use Rattle.typetable.specs.Table.{lineOf}
 use Rattle.types.specs.declared.Kind.{Kind}
-use Rattle.types.proofs.Carried.{Carried, carried-line, type-gives}
+use Rattle.carried.proofs.Carried.{Carried, carried-line, type-gives}
 use Rattle.schema.specs.Records.{isLineOf, isNameOf, isKindOf, none, anywhere, countOf, mostOf, isPassed, isFirst, inTurn, withOne}
-use Rattle.schema.specs.declared.columns.Column.{Column}
+use Rattle.column.specs.declared.Column.{Column}
 use Rattle.schema.specs.declared.records.Counts.{Counts}
 use Rattle.entries.specs.declared.contents.Contents.{Contents}
 use Rattle.statistics.specs.Header.{column, countAt, isNamed, nameAt, typedAt, namedAt, columnAt, columnsAt, groupAt, groupsAt, headerAt, headOf, placeOf, tailOf, recordOf, recordsOf}

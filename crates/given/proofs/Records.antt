@@ -12,8 +12,8 @@ use Rattle.wire.proofs.Choose.{pick-yes, pick-no}
 use Rattle.fixed.proofs.BigEndian.{spelled-back}
 use Rattle.wire.proofs.Stands.{Stands, stands-left, stands-right}
 use Rattle.schema.specs.Records.{roleAt, lineAt, markAt, widthAt, nameAt, nameLenAt, zerosAt, isKindOf, isNameOf, given, inTurn, withOne, none, recordAt, recordsAt, schemaAt}
-use Rattle.schema.specs.Columns.{columnAt}
-use Rattle.schema.specs.declared.columns.Column.{Column}
+use Rattle.column.specs.Columns.{columnAt}
+use Rattle.column.specs.declared.Column.{Column}
 use Rattle.schema.specs.declared.records.Counts.{Counts}
 use Rattle.statistics.specs.Header.{headOf, placeOf, tailOf, recordOf, recordsOf}
 use Rattle.statistics.proofs.Records.{length-head, length-place, length-record, length-records}

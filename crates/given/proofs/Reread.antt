@@ -16,11 +16,11 @@ use Rattle.wire.proofs.RoundTrip.{Reads, reads-got, reads-on, reads-at, reads-y
 use Rattle.wire.proofs.Stands.{Stands, stands-left, stands-right}
 use Rattle.varints.proofs.Varints.{varint-back}
 use Rattle.typetable.specs.Table.{lineOf}
-use Rattle.typetable.specs.Text.{same}
-use Rattle.typetable.proofs.Texts.{same-lengths}
-use Rattle.types.proofs.Spelled.{typeBytes, type-back}
+use Rattle.texts.specs.Text.{same}
+use Rattle.texts.proofs.Texts.{same-lengths}
+use Rattle.carried.proofs.Spelled.{typeBytes, type-back}
 use Rattle.schema.specs.Records.{mostOf}
-use Rattle.schema.specs.declared.columns.Column.{Column}
+use Rattle.column.specs.declared.Column.{Column}
 use Rattle.statistics.specs.Bases.{timestampAt, localOf, localAt, ttlAt, basesAt}
 use Rattle.statistics.specs.Header.{column, countAt, isNamed, nameAt, typedAt, namedAt, columnAt, columnsAt, Group, groupAt, groupsAt, headerAt}
 use Rattle.given.specs.Canonical.{letters, lettersOf, kindOf, columnBytes, columnsBytes, groupBytes, basesBytes, groupsBytes, headerBytes}

@@ -9,7 +9,7 @@ use lib.Dec.{ltb}
 use lib.ListN.{length}
 use Rattle.wire.specs.Choose.{pick, bind}
 use Rattle.schema.specs.Records.{none, countOf, mostOf, isPassed, isFirst, inTurn, withOne}
-use Rattle.schema.specs.declared.columns.Column.{Column}
+use Rattle.column.specs.declared.Column.{Column}
 use Rattle.schema.specs.declared.records.Counts.{Counts}
 use Rattle.given.specs.Schemas.{counts}
 use Rattle.given.proofs.Records.{Every, empty, each, Turns, done, turn}

@@ -14,9 +14,9 @@ use Rattle.wire.proofs.Choose.{pick-ind}
 use Rattle.wire.proofs.RoundTrip.{Reads, reads-got, reads-on, reads-at, reads-yes, reads-no, reads-to}
 use Rattle.wire.proofs.Stands.{Stands, stands-left, stands-right, narrow}
 use Rattle.fixed.proofs.BigEndian.{length-bytesOf, fixed-back}
-use Rattle.schema.specs.declared.columns.Column.{Column}
+use Rattle.column.specs.declared.Column.{Column}
 use Rattle.entries.specs.Contents.{none, offsetOf, withEntry, used, entryTypeAt, offsetAt, pairsAt, countAt, present, contentsAt, nearer, endOf}
-use Rattle.entries.specs.Validation.{chanceOf, chanceAt, validationAt}
+use Rattle.validation.specs.Validation.{chanceOf, chanceAt, validationAt}
 use Rattle.entries.specs.declared.contents.Contents.{Contents}
 use Rattle.statistics.specs.Statistics.{File, entry0At, entry3At, forwardAt, entriesAt, fileAt}
 use Rattle.given.specs.Canonical.{headerBytes, contentsBytes, validationBytes, statisticsBytes}

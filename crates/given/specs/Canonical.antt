@@ -8,8 +8,8 @@ use Rattle.wire.specs.Choose.{pick}
 use Rattle.fixed.specs.BigEndian.{bytesOf}
 use Rattle.varints.specs.Varints.{shortest}
 use Rattle.types.specs.declared.Kind.{Kind}
-use Rattle.types.proofs.Spelled.{typeBytes}
-use Rattle.schema.specs.declared.columns.Column.{Column}
+use Rattle.carried.proofs.Spelled.{typeBytes}
+use Rattle.column.specs.declared.Column.{Column}
 
 -- a name of n letters
 unfoldable pub letters : ℕ → List ℕ

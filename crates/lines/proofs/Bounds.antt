@@ -9,7 +9,7 @@ use lib.Dec.{ltb}
 use lib.ListN.{length, length-append}
 use mir.Syntax.{w64}
 use mir.Val.{Fits}
-use Rattle.typetable.specs.Text.{text}
+use Rattle.texts.specs.Text.{text}
 use Rattle.wire.specs.Choose.{pick}
 use Rattle.wire.specs.Refusals.{faultNumber}
 use Rattle.wire.specs.Store.{Room, Puts}

@@ -2,7 +2,7 @@
 use mathlib.Core.Path.{_≡_, refl}
 use mathlib.Core.List.{List, [], _∷_, _++_}
 use Prim.Native.Nat.{ℕ, _-_, _+_, _^_}
-use Rattle.typetable.specs.Text.{text}
+use Rattle.texts.specs.Text.{text}
 use Rattle.wire.specs.Choose.{pick, bind}
 use Rattle.wire.specs.declared.refusal.Fault.the-variants.{PastEnd, LeftOver, NoRoom}
 use Rattle.wire.specs.declared.refusal.Slice.the-variants.{Statistics, Data, Output}

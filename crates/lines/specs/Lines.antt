@@ -1,7 +1,7 @@
 -- What the listing program prints: a line for each record, or a refusal's one line. Assumes nothing.
 use Prim.Native.Nat.{ℕ}
 use mathlib.Core.List.{List, [], _∷_, _++_}
-use Rattle.typetable.specs.Text.{text}
+use Rattle.texts.specs.Text.{text}
 use Rattle.wire.specs.Refusals.{faultNumber}
 use Rattle.wire.specs.declared.refusal.Fault.{Fault}
 use Rattle.wire.specs.declared.refusal.Slice.{Slice}

@@ -19,7 +19,7 @@ use Rattle.wire.specs.declared.refusal.Refusal.{Refusal}
 use Rattle.wire.specs.declared.refusal.Slice.the-variants.{Statistics, Output}
 use Rattle.wire.proofs.Gives.{Gives, gives-got, gives-bad, gives-on, gives-pick, gives-is}
 use Rattle.entries.specs.declared.contents.Contents.{Contents}
-use Rattle.schema.specs.declared.columns.Column.{Column}
+use Rattle.column.specs.declared.Column.{Column}
 use Rattle.statistics.specs.Buffer.{columnCount}
 use Rattle.statistics.specs.Header.{ofClustering, ofStatic, ofRegular, countAt, columnsAt, groupAt, groupsAt, headerAt, recordsOf}
 use Rattle.statistics.specs.Statistics.{File, fileAt, entriesAt, forwardAt, backwardAt, entry3At, tableOf, answered, filledIn, statisticsOf, schemaIn, saidAnswer, Reads}

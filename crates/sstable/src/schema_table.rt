@@ -2,9 +2,8 @@
 ghost use mathlib.Core.Path.{_≡_};
 ghost use lib.ListN.{length};
 ghost use Rattle.schema.specs.Records.{anywhere};
-ghost use Rattle.schema.specs.Columns.{sameSchemas};
+ghost use Rattle.column.specs.Columns.{sameSchemas};
 ghost use Rattle.sstable.specs.Statistics.{schemaWords, checkedWords};
-use schema::columns;
 use schema::records;
 use schema::records::Checked;
 use wire::refusal;
@@ -55,5 +54,5 @@ pub extern "C" fn sstable_schema_check_named(
 pub extern "C" fn sstable_schema_same(a: &[u8], t: &[u8], b: &[u8], u: &[u8]) -> bool
     ensures { λ r. ⌜ r ≡ sameSchemas (now (a .entry)) (now (t .entry)) (now (b .entry)) (now (u .entry)) ⌝ }
 {
-    columns::is_same(a, t, b, u)
+    column::is_same(a, t, b, u)
 }

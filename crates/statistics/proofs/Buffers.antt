@@ -15,8 +15,8 @@ use Rattle.wire.proofs.Splices.{getD-before}
 use Rattle.wire.proofs.Puts.{puts-same}
 use Rattle.wire.proofs.Stands.{Stands, stands-left, stands-right, stands-put}
 use Rattle.schema.specs.Records.{roleAt, lineAt, markAt, widthAt, nameAt, nameLenAt}
-use Rattle.schema.specs.Columns.{columnAt}
-use Rattle.schema.specs.declared.columns.Column.{Column}
+use Rattle.column.specs.Columns.{columnAt}
+use Rattle.column.specs.declared.Column.{Column}
 use Rattle.statistics.specs.Header.{headOf, placeOf, tailOf, recordOf, recordsOf}
 use Rattle.statistics.specs.Buffer.{columnsFrom, Kept, Holds}
 use Rattle.statistics.proofs.Records.{length-head, length-place, length-record, length-records, records-append}

@@ -21,10 +21,10 @@ use Rattle.wire.proofs.RoundTrip.{Reads}
 use Rattle.wire.proofs.Puts.{puts-same}
 use Rattle.varints.proofs.Varints.{varint-ends}
 use Rattle.wire.proofs.Said.{on-num, on-num-bad, num-got}
-use Rattle.typetable.specs.Text.{same}
+use Rattle.texts.specs.Text.{same}
 use Rattle.schema.specs.Records.{roleAt, nameAt, nameLenAt, mostOf}
-use Rattle.schema.specs.Columns as schema
-use Rattle.schema.specs.declared.columns.Column.{Column}
+use Rattle.column.specs.Columns as schema
+use Rattle.column.specs.declared.Column.{Column}
 use Rattle.statistics.specs.Header.{countAt, isNamed, nameAt as nameOfAt, typedAt, namedAt, columnAt, columnsAt, Group, group, groupAt, recordOf}
 use Rattle.statistics.specs.Buffer.{columnsFrom, Kept, Holds, placeAfter, countIn, Adds, Fills, FillsGroup}
 use Rattle.statistics.specs.Said.{saidColumn}

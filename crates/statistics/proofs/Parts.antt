@@ -19,7 +19,7 @@ use Rattle.wire.proofs.Choose.{pick-yes, pick-no}
 use Rattle.wire.proofs.Gives.{Gives, gives-on, gives-got, gives-bad, gives-pick, gives-bind, gives-is}
 use Rattle.wire.proofs.RoundTrip.{Reads, reads-on, reads-got, reads-no, reads-then, bad-on}
 use Rattle.schema.specs.Records.{mostOf}
-use Rattle.schema.specs.declared.columns.Column.{Column}
+use Rattle.column.specs.declared.Column.{Column}
 use Rattle.statistics.specs.Bases.{basesAt}
 use Rattle.statistics.specs.Header.{columnsAt, Group, groupAt, Groups, groups, sizesOf, groupsAt, Header, header, headerAt}
 use Rattle.statistics.specs.Buffer.{columnsFrom, Kept, Holds, placeAfter, countIn, sizesIn, headIn, columnCount, Fills, FillsGroup, FillsGroups, FillsHeader}

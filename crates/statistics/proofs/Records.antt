@@ -11,7 +11,7 @@ use Rattle.wire.specs.Store.{Room, Puts, splice}
 use Rattle.fixed.proofs.BigEndian.{length-bytesOf}
 use Rattle.wire.proofs.Splices.{splice-cons}
 use Rattle.wire.proofs.Puts.{puts-none}
-use Rattle.schema.specs.declared.columns.Column.{Column}
+use Rattle.column.specs.declared.Column.{Column}
 use Rattle.statistics.specs.Header.{headOf, placeOf, tailOf, recordOf, recordsOf}
 
 pub length-head : (c : Column) → length (headOf c) ≡ 4

@@ -8,7 +8,7 @@ use Rattle.types.specs.Strings.{saidTyped}
 use Rattle.types.specs.declared.Kind.{Kind}
 use Rattle.types.specs.declared.Typed.{Typed}
 use Rattle.types.specs.declared.Typed.the-variants.{Known, Refused as typed-refused}
-use Rattle.schema.specs.declared.columns.Column.{Column}
+use Rattle.column.specs.declared.Column.{Column}
 use Rattle.statistics.specs.Said.{saidNamed, saidColumn, saidTimes}
 use Rattle.statistics.specs.declared.columns.Name.{Name}
 use Rattle.statistics.specs.declared.columns.Named.{Named}

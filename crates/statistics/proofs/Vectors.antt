@@ -12,7 +12,7 @@ use Rattle.wire.specs.Times.{biased}
 use Rattle.varints.specs.Varints.{leading, low, varintAt}
 use Rattle.wire.specs.declared.refusal.Fault.{Fault}
 use Rattle.wire.specs.declared.refusal.Fault.the-variants.{PastEnd, LeftOver, OutOfRange, NotCarried, TooMany, Repeated}
-use Rattle.typetable.specs.Text.{same, among}
+use Rattle.texts.specs.Text.{same, among}
 use Rattle.typetable.specs.Table.{table, lineIn, nth, lineOf}
 use Rattle.types.specs.Strings.{blank, alphanumeric, ofName, ofParameters, past, upTo, named, counted, inside, opened, tail, typed, behind, plain, lineWith, stringWith, held, typeOf, stringAt, typeAt}
 use Rattle.schema.specs.Records.{mostOf}

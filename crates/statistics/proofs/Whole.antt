@@ -19,13 +19,13 @@ use Rattle.wire.proofs.Puts.{length-part}
 use Rattle.wire.proofs.RoundTrip.{Reads as IsRead, reads-on, reads-got, reads-then, bad-on}
 use Rattle.wire.proofs.Stands.{stands-part}
 use Rattle.entries.specs.Contents.{contentsAt, endOf, saidListed}
-use Rattle.entries.specs.Validation.{validationAt, saidValidated}
+use Rattle.validation.specs.Validation.{validationAt, saidValidated}
 use Rattle.entries.specs.declared.contents.Contents.{Contents}
 use Rattle.entries.specs.declared.contents.Listed.{Listed}
 use Rattle.entries.specs.declared.contents.Listed.the-variants.{Pairs, Refused as listed-refused}
-use Rattle.entries.specs.declared.validation.Validation.{Validation}
-use Rattle.entries.specs.declared.validation.Validated.{Validated}
-use Rattle.entries.specs.declared.validation.Validated.the-variants.{Entry, Refused as entry-refused}
+use Rattle.validation.specs.declared.Validation.{Validation}
+use Rattle.validation.specs.declared.Validated.{Validated}
+use Rattle.validation.specs.declared.Validated.the-variants.{Entry, Refused as entry-refused}
 use Rattle.statistics.specs.Header.{Header, headerAt, recordsOf}
 use lib.Dec.{ltb}
 use Rattle.statistics.specs.Buffer.{columnsFrom, Holds, headIn, columnCount, FillsHeader}

@@ -6,8 +6,8 @@ use lib.ListN.{length}
 use Rattle.wire.specs.Got.{Got, got, bad, saidNum}
 use Rattle.wire.specs.declared.number.Num.{Num}
 use Rattle.wire.proofs.Stands.{Stands}
-use Rattle.schema.specs.Columns.{columnAt}
-use Rattle.schema.specs.declared.columns.Column.{Column}
+use Rattle.column.specs.Columns.{columnAt}
+use Rattle.column.specs.declared.Column.{Column}
 use Rattle.statistics.specs.Header.{recordsOf, Group, Groups, Header}
 use Rattle.statistics.specs.Said.{saidGrouped, saidHeaded}
 use Rattle.statistics.specs.declared.columns.Sizes.{Sizes}

@@ -12,11 +12,11 @@ use Rattle.varints.specs.Varints.{varintAt}
 use Rattle.wire.specs.declared.refusal.Fault.the-variants.{PastEnd, TooMany, Repeated}
 use Rattle.wire.specs.declared.times.Bases.{Bases}
 use Rattle.typetable.specs.Table.{lineOf}
-use Rattle.typetable.specs.Text.{same}
+use Rattle.texts.specs.Text.{same}
 use Rattle.types.specs.Strings.{typeAt}
 use Rattle.types.specs.declared.Kind.{Kind}
 use Rattle.schema.specs.Records.{mostOf}
-use Rattle.schema.specs.declared.columns.Column.{Column}
+use Rattle.column.specs.declared.Column.{Column}
 use Rattle.statistics.specs.Bases.{basesAt}
 use Rattle.statistics.specs.declared.columns.Name.{Name}
 use Rattle.statistics.specs.declared.columns.Sizes.{Sizes}

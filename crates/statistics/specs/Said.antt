@@ -6,7 +6,7 @@ use Rattle.statistics.specs.declared.columns.Named.{Named}
 use Rattle.statistics.specs.declared.columns.Named.the-variants.{Is, Refused as named-refused}
 use Rattle.statistics.specs.declared.columns.Found.{Found}
 use Rattle.statistics.specs.declared.columns.Found.the-variants.{Is as IsColumn, Refused as found-refused}
-use Rattle.schema.specs.declared.columns.Column.{Column}
+use Rattle.column.specs.declared.Column.{Column}
 use Rattle.statistics.specs.declared.columns.Sizes.{Sizes}
 use Rattle.statistics.specs.declared.columns.Grouped.{Grouped}
 use Rattle.statistics.specs.declared.columns.Grouped.the-variants.{Counts, Refused as grouped-refused}

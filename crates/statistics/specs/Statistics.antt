@@ -12,10 +12,10 @@ use Rattle.wire.specs.declared.refusal.Fault.the-variants.{OverLimit, NoRoom}
 use Rattle.wire.specs.declared.refusal.Slice.{Slice}
 use Rattle.wire.specs.declared.refusal.Slice.the-variants.{Statistics, Output}
 use Rattle.entries.specs.Contents.{contentsAt, endOf}
-use Rattle.entries.specs.Validation.{validationAt}
+use Rattle.validation.specs.Validation.{validationAt}
 use Rattle.entries.specs.declared.contents.Contents.{Contents}
-use Rattle.entries.specs.declared.validation.Validation.{Validation}
-use Rattle.schema.specs.declared.columns.Column.{Column}
+use Rattle.validation.specs.declared.Validation.{Validation}
+use Rattle.column.specs.declared.Column.{Column}
 use Rattle.statistics.specs.Header.{Header, headerAt, recordsOf}
 use Rattle.statistics.specs.declared.Table.{Table}
 use Rattle.statistics.specs.Buffer.{Holds, columnCount}

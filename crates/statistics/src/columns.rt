@@ -9,9 +9,9 @@ ghost use Rattle.statistics.specs.Header.{column, countAt, typedAt, isNa
 ghost use Rattle.statistics.specs.Buffer.{columnsFrom, Kept, Adds, Fills, FillsGroup, FillsGroups};
 ghost use Rattle.statistics.specs.Said.{saidNamed, saidColumn};
 ghost use Rattle.schema.specs.Records.{mostOf};
-ghost use Rattle.schema.specs.Columns.{nameOf};
-ghost use Rattle.typetable.specs.Text.{same};
-use schema::columns::Column;
+ghost use Rattle.column.specs.Columns.{nameOf};
+ghost use Rattle.texts.specs.Text.{same};
+use column::Column;
 use types::Kind;
 use types::Typed;
 use wire::number::Num;
@@ -140,7 +140,7 @@ fn has_name(s: &[u8], d: &[u8], at: usize, start: usize, len: usize) -> bool
 {
     let from = fixed::big_endian(d, at + 4, 4, 0);
     let size = fixed::big_endian(d, at + 8, 4, 0);
-    typetable::text::equal(
+    texts::equal(
         part::shown_in(s, from as usize, size as usize),
         part::shown_in(s, start, len),
     )

@@ -27,12 +27,12 @@ use Rattle.types.specs.declared.string.Skip.{Skip}
 use Rattle.types.specs.declared.string.Skip.the-variants.{Behind, Faulty}
 use Rattle.types.specs.declared.string.Parsed.{Parsed}
 use Rattle.types.specs.declared.string.Parsed.the-variants.{Known, Refused}
-use Rattle.typetable.specs.Text.{rest, same, among, startsWith}
+use Rattle.texts.specs.Text.{rest, same, among, startsWith}
 use Rattle.typetable.specs.Table.{table, lineIn}
 use Rattle.types.specs.Strings.{blank, ofName, past, upTo, marshal, named, Closed, faulty, opened, tail, typed, behind, lineWith, stringWith, typeOf, stringAt, saidTyped}
 use Rattle.types.specs.Parts.{Passed, lineNamed, NameAt, saidSkip, saidParsed}
-use Rattle.typetable.proofs.Rest.{rest-all, rest-none, rest-some}
-use Rattle.typetable.proofs.Texts.{same-lengths, starts-fits}
+use Rattle.texts.proofs.Rest.{rest-all, rest-none, rest-some}
+use Rattle.texts.proofs.Texts.{same-lengths, starts-fits}
 
 -- ---- names
 module _ (name : List ℕ) (b : Bool) (e : b ≡ among 46 name) where

@@ -15,8 +15,8 @@ use Rattle.types.specs.declared.string.Skip.{Skip}
 use Rattle.types.specs.declared.string.Skip.the-variants.{Behind, Faulty}
 use Rattle.types.specs.Strings.{ofParameters, Closed, closed, faulty, counted, inside}
 use Rattle.types.specs.Parts.{saidSkip}
-use Rattle.typetable.specs.Text.{rest}
-use Rattle.typetable.proofs.Rest.{rest-none, rest-some, length-rest}
+use Rattle.texts.specs.Text.{rest}
+use Rattle.texts.proofs.Rest.{rest-none, rest-some, length-rest}
 
 -- ---- an inner pair
 -- what is read behind a part in parentheses

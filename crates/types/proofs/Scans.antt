@@ -11,8 +11,8 @@ use Rattle.wire.specs.Store.{part}
 use Rattle.wire.proofs.Choose.{pick-yes, pick-no}
 use Rattle.types.specs.Strings.{past, upTo}
 use Rattle.types.specs.Parts.{Passed}
-use Rattle.typetable.specs.Text.{rest}
-use Rattle.typetable.proofs.Rest.{rest-none, rest-some}
+use Rattle.texts.specs.Text.{rest}
+use Rattle.texts.proofs.Rest.{rest-none, rest-some}
 
 part-more : (s : List ℕ) (at i : ℕ) → at ≤ i → i < length s → part s at (i + 1 - at) ≡ part s at (i - at) ++ getD s i 0 ∷ []
 unfolding part

@@ -6,7 +6,7 @@ use Prim.Native.String.{String}
 use Rattle.wire.specs.Choose.{pick, bind}
 use Rattle.wire.specs.Got.{got, bad}
 use Rattle.wire.specs.declared.refusal.Fault.the-variants.{NotCarried, TooMany}
-use Rattle.typetable.specs.Text.{text, same, among}
+use Rattle.texts.specs.Text.{text, same, among}
 use Rattle.typetable.specs.Table.{table, lineIn, nth, lineOf}
 use Rattle.types.specs.Strings.{blank, alphanumeric, ofName, ofParameters, past, upTo, named, counted, inside, opened, tail, typed, behind, plain, lineWith, stringWith, held, typeOf}
 

@@ -13,7 +13,7 @@ use Rattle.types.specs.declared.string.Skip.{Skip}
 use Rattle.types.specs.declared.string.Skip.the-variants.{Behind, Faulty}
 use Rattle.types.specs.declared.string.Parsed.{Parsed}
 use Rattle.types.specs.declared.string.Parsed.the-variants.{Known, Refused}
-use Rattle.typetable.specs.Text.{rest, same}
+use Rattle.texts.specs.Text.{rest, same}
 use Rattle.typetable.specs.Table.{bytesLine}
 use Rattle.types.specs.Strings.{blank, ofName, past, upTo, named, Closed, closed, faulty}
 

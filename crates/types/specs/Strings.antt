@@ -16,7 +16,7 @@ use Rattle.wire.specs.declared.refusal.Fault.the-variants.{PastEnd, NotCarried,
 use Rattle.types.specs.declared.Typed.{Typed}
 use Rattle.types.specs.declared.Typed.the-variants.{Known, Refused}
 use Rattle.types.specs.declared.Kind.{Kind}
-use Rattle.typetable.specs.Text.{text, same, among}
+use Rattle.texts.specs.Text.{text, same, among}
 use Rattle.typetable.specs.Table.{table, lineIn, lineOf, bytesLine, reversedLine}
 
 -- ---- characters

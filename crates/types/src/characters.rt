@@ -1,13 +1,12 @@
 // The characters of type strings.
 ghost use mathlib.Core.Path.{_≡_};
 ghost use Rattle.types.specs.Strings.{blank, alphanumeric, ofName, ofParameters};
-use typetable::text;
 
 // Whether c is skipped before and behind a name.
 pub fn is_blank(c: u8) -> bool
     ensures { λ r. ⌜ r ≡ blank c ⌝ }
 {
-    text::among(c, b" \t\n")
+    texts::among(c, b" \t\n")
 }
 
 // Whether c is a letter or a digit.
@@ -39,7 +38,7 @@ pub fn is_name(c: u8) -> bool
     if is_alphanumeric(c) {
         return true;
     }
-    text::among(c, b"-+._&")
+    texts::among(c, b"-+._&")
 }
 
 // Whether c may stand inside the parameters of a type other than Reversed, besides parentheses.
@@ -49,5 +48,5 @@ pub fn is_parameter(c: u8) -> bool
     if is_alphanumeric(c) {
         return true;
     }
-    text::among(c, b"-+._&,:=> ")
+    texts::among(c, b"-+._&,:=> ")
 }

@@ -4,13 +4,12 @@ ghost use mathlib.Core.Bool.{true};
 ghost use Prim.Native.Nat.{_≤_};
 ghost use lib.ListN.{length};
 ghost use Rattle.wire.specs.Choose.{pick};
-ghost use Rattle.typetable.specs.Text.{rest, same};
+ghost use Rattle.texts.specs.Text.{rest, same};
 ghost use Rattle.typetable.specs.Table.{lineOf};
 ghost use Rattle.types.specs.Strings.{blank, ofName, named, inside, tail, typed, plain, held, typeOf};
 ghost use Rattle.types.specs.Parts.{Passed, NameAt, saidSkip, saidParsed};
 use crate::Kind;
 use crate::characters;
-use typetable::text;
 use wire::refusal::Fault;
 
 // The lines of BytesType and of Reversed.
@@ -54,8 +53,8 @@ fn name_end(s: &[u8], at: usize) -> usize
 fn named(name: &[u8]) -> u8
     ensures { λ r. ⌜ r ≡ named (now (name .entry)) ⌝ }
 {
-    if text::among(b'.', name) {
-        if text::starts_with(name, b"org.apache.cassandra.db.marshal.") {
+    if texts::among(b'.', name) {
+        if texts::starts_with(name, b"org.apache.cassandra.db.marshal.") {
             return typetable::find(&name[32..]);
         }
         return 0;

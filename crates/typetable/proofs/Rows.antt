@@ -17,10 +17,10 @@ use Rattle.wire.specs.Choose.{pick}
 use Rattle.wire.specs.Store.{part}
 use Rattle.wire.proofs.Choose.{cases, pick-yes, pick-no, pick-ind}
 use Rattle.wire.proofs.Finite.{allBelow, below-at}
-use Rattle.typetable.specs.Text.{same}
+use Rattle.texts.specs.Text.{same}
 use Rattle.typetable.specs.Table.{Line, table, lineIn, nth, lineOf, noLine, isLine}
 use Rattle.typetable.specs.Rows.{names, first}
-use Rattle.typetable.proofs.Texts.{first-passes, then-passes, same-is}
+use Rattle.texts.proofs.Texts.{first-passes, then-passes, same-is}
 
 -- where the names of lines end, the first of which begins at e
 unfoldable pub endsFrom : ℕ → List Line → List ℕ

@@ -6,7 +6,7 @@ use mathlib.Core.List.{List, [], _∷_}
 use lib.Dec.{eqb, leb}
 use lib.ListN.{length}
 use Rattle.wire.specs.Choose.{pick}
-use Rattle.typetable.specs.Text.{text, same}
+use Rattle.texts.specs.Text.{text, same}
 
 -- a line: the type's name; whether it takes parameters; its fixed width, or 255 where it is variable; whether document 01 orders it;
 -- whether a static or regular column may have it

@@ -1,11 +1,9 @@
 // The table of types (001), one line each, from 1.
-pub mod text; // text.rt: texts in bytes
-
 ghost use mathlib.Core.Path.{_≡_};
 ghost use Prim.Native.Nat.{_-_, _<_, _≤_};
 ghost use lib.ListN.{length};
 ghost use Rattle.wire.specs.Store.{part};
-ghost use Rattle.typetable.specs.Text.{same};
+ghost use Rattle.texts.specs.Text.{same};
 ghost use Rattle.typetable.specs.Table.{table, lineIn, lineOf, isLine};
 ghost use Rattle.typetable.specs.Rows.{names, first};
 
@@ -136,7 +134,7 @@ fn has_part(a: &[u8], from: usize, to: usize, b: &[u8]) -> bool
     requires { ⌜ (from ≤ to) × (to ≤ length (now a)) ⌝ }
     ensures { λ r. ⌜ r ≡ same (part (now (a .entry)) from (to - from)) (now (b .entry)) ⌝ }
 {
-    text::equal(&a[from..to], b)
+    texts::equal(&a[from..to], b)
 }
 
 // Whether a line of the table has the name.

@@ -1,0 +1,1 @@
+// The types that are carried, and their type strings: laws alone, no function.

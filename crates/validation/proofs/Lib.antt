@@ -1,0 +1,3 @@
+-- What the code's answers say (Said), and the double (Doubles).
+pub mod Said
+pub mod Doubles
