@@ -17,8 +17,9 @@ use Rattle.texts.specs.Text.{same, among}
 use Rattle.typetable.specs.Table.{lineOf, isLine}
 use Rattle.typetable.proofs.Rows.{line-most, line-yes, line-range}
 use Rattle.types.specs.declared.Kind.{Kind}
-use Rattle.types.specs.Strings.{blank, ofName, past, upTo, named, Closed, closed, faulty, opened, tail, typed, behind, plain, lineWith, stringWith, held, typeOf, stringAt, typeAt}
-use Rattle.types.specs.Parts.{lineNamed}
+use Rattle.typenames.specs.Names.{blank, ofName, past, upTo, named, Closed, closed, faulty}
+use Rattle.types.specs.Strings.{opened, tail, typed, behind, plain, lineWith, stringWith, held, typeOf, stringAt, typeAt}
+use Rattle.typenames.specs.Parts.{lineNamed}
 use Rattle.varints.proofs.Varints.{varint-ends}
 
 -- a type that a column, key or clustering column may have: column where it is that of a static or regular column

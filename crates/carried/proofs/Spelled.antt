@@ -20,7 +20,8 @@ use Rattle.texts.specs.Text.{text, same, among}
 use Rattle.typetable.specs.Table.{table, lineIn, nth, lineOf}
 use Rattle.texts.proofs.Texts.{first-passes, then-passes}
 use Rattle.types.specs.declared.Kind.{Kind}
-use Rattle.types.specs.Strings.{blank, alphanumeric, ofName, ofParameters, past, upTo, named, counted, inside, opened, tail, typed, behind, plain, lineWith, stringWith, held, typeOf, stringAt, typeAt}
+use Rattle.typenames.specs.Names.{blank, alphanumeric, ofName, ofParameters, past, upTo, named, counted, inside}
+use Rattle.types.specs.Strings.{opened, tail, typed, behind, plain, lineWith, stringWith, held, typeOf, stringAt, typeAt}
 use Rattle.carried.proofs.Carried.{Carried}
 
 -- a type's string: the name, with empty parameters where it takes some; inside Reversed where it is reversed

@@ -15,7 +15,8 @@ use Rattle.varints.proofs.Vectors.{Spells, vectors}
 use Rattle.texts.specs.Text.{text, same, among}
 use Rattle.typetable.specs.Table.{table, lineIn, nth, isLine}
 use Rattle.typetable.specs.Table.{lineOf as typeLine}
-use Rattle.types.specs.Strings.{blank, alphanumeric, ofName, ofParameters, past, upTo, named, inside, opened, tail, typed, behind, plain, lineWith, stringWith, held, typeOf, stringAt, typeAt}
+use Rattle.typenames.specs.Names.{blank, alphanumeric, ofName, ofParameters, past, upTo, named, inside}
+use Rattle.types.specs.Strings.{opened, tail, typed, behind, plain, lineWith, stringWith, held, typeOf, stringAt, typeAt}
 use Rattle.types.specs.Strings.{counted as parametersCounted}
 use Rattle.schema.specs.Records.{mostOf, roleAt, lineAt, markAt, widthAt, nameLenAt, zerosAt, isLineOf, isNameOf, isKindOf, given, countOf, isPassed, isFirst, inTurn, withOne, recordAt, recordsAt, schemaAt, schemaOf}
 use Rattle.schema.specs.Records.{nameAt as recordNameAt}

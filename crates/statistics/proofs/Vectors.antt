@@ -14,7 +14,8 @@ use Rattle.wire.specs.declared.refusal.Fault.{Fault}
 use Rattle.wire.specs.declared.refusal.Fault.the-variants.{PastEnd, LeftOver, OutOfRange, NotCarried, TooMany, Repeated}
 use Rattle.texts.specs.Text.{same, among}
 use Rattle.typetable.specs.Table.{table, lineIn, nth, lineOf}
-use Rattle.types.specs.Strings.{blank, alphanumeric, ofName, ofParameters, past, upTo, named, counted, inside, opened, tail, typed, behind, plain, lineWith, stringWith, held, typeOf, stringAt, typeAt}
+use Rattle.typenames.specs.Names.{blank, alphanumeric, ofName, ofParameters, past, upTo, named, counted, inside}
+use Rattle.types.specs.Strings.{opened, tail, typed, behind, plain, lineWith, stringWith, held, typeOf, stringAt, typeAt}
 use Rattle.schema.specs.Records.{mostOf}
 use Rattle.statistics.specs.Bases.{timestampAt, localOf, localAt, ttlAt, basesAt}
 use Rattle.statistics.specs.Header.{countAt, isNamed, nameAt, typedAt, namedAt, columnAt, columnsAt, groupAt, groupsAt, headerAt, headOf, placeOf, tailOf, recordOf, recordsOf, Header}

@@ -3,12 +3,10 @@ use mathlib.Core.Path.{_≡_, refl, sym, _∙_}
 use mathlib.Core.Bool.{Bool, true, false}
 use mathlib.Core.List.{List, [], _∷_}
 use Prim.Native.Nat.{ℕ, zero, suc, _+_, _-_, _≤_, _<_}
-use native.Mathlib.Nat.{sub-self}
 use native.Mathlib.Omega.{arith}
 use borrow.Author.Tests.{eq-eqb, ne-eqb, leb-true, leb-false, ltb-false}
 use lib.Dec.{eqb, leb, ltb, eqb·suc-zero}
-use lib.ListN.{length, getD, take, drop, length-drop}
-use lib.Seq.{take-all}
+use lib.ListN.{length, getD, take, drop}
 use Rattle.wire.specs.Choose.{pick}
 use Rattle.wire.specs.Got.{Got, got, bad, on, saidNum}
 use Rattle.wire.specs.Store.{part}
@@ -17,65 +15,21 @@ use Rattle.wire.specs.declared.number.Num.{Num}
 use Rattle.wire.specs.declared.number.Num.the-variants.{Number}
 use Rattle.wire.specs.declared.refusal.Fault.{Fault}
 use Rattle.wire.proofs.Choose.{pick-yes, pick-no, bind-self}
-use Rattle.wire.proofs.Puts.{length-part}
 use Rattle.varints.proofs.Varints.{varint-within, varint-inside}
 use Rattle.types.specs.declared.Kind.{Kind}
 use Rattle.types.specs.declared.Typed.{Typed}
 use Rattle.types.specs.declared.Typed.the-variants.{Known as typed-known, Refused as typed-refused}
-use Rattle.types.specs.declared.string.Name.{Name}
-use Rattle.types.specs.declared.string.Skip.{Skip}
-use Rattle.types.specs.declared.string.Skip.the-variants.{Behind, Faulty}
+use Rattle.typenames.specs.declared.Name.{Name}
+use Rattle.typenames.specs.declared.Skip.{Skip}
+use Rattle.typenames.specs.declared.Skip.the-variants.{Behind, Faulty}
 use Rattle.types.specs.declared.string.Parsed.{Parsed}
 use Rattle.types.specs.declared.string.Parsed.the-variants.{Known, Refused}
-use Rattle.texts.specs.Text.{rest, same, among, startsWith}
-use Rattle.typetable.specs.Table.{table, lineIn}
-use Rattle.types.specs.Strings.{blank, ofName, past, upTo, marshal, named, Closed, faulty, opened, tail, typed, behind, lineWith, stringWith, typeOf, stringAt, saidTyped}
-use Rattle.types.specs.Parts.{Passed, lineNamed, NameAt, saidSkip, saidParsed}
+use Rattle.texts.specs.Text.{rest, same}
+use Rattle.typenames.specs.Names.{Closed, faulty}
+use Rattle.types.specs.Strings.{opened, tail, typed, behind, lineWith, stringWith, typeOf, stringAt, saidTyped}
+use Rattle.typenames.specs.Parts.{lineNamed, NameAt, saidSkip}
+use Rattle.types.specs.Parts.{saidParsed}
 use Rattle.texts.proofs.Rest.{rest-all, rest-none, rest-some}
-use Rattle.texts.proofs.Texts.{same-lengths, starts-fits}
-
--- ---- names
-module _ (name : List ℕ) (b : Bool) (e : b ≡ among 46 name) where
-  pub named-short : (r : ℕ) → b ≡ false → r ≡ lineIn 1 table name → r ≡ named name
-  unfolding named
-  named-short r f g = pick-no _ _ _ _ (sym e ∙ f) g
-
-  module _ (f : b ≡ true) (d : Bool) (h : d ≡ startsWith name marshal) where
-    pub named-other : d ≡ false → 0 ≡ named name
-    unfolding named startsWith
-    named-other g = pick-yes _ _ _ _ (sym e ∙ f) (pick-no _ _ _ _ (sym h ∙ g) refl)
-
-    pub named-full : (r : ℕ) → d ≡ true → r ≡ lineIn 1 table (take (length name - 32) (drop 32 name)) → r ≡ named name
-    unfolding named startsWith
-    named-full r g k =
-        let t : take (length name - 32) (drop 32 name) ≡ drop 32 name = take-all (length name - 32) (drop 32 name) (omega (arith, length-drop 32 name)) in
-        pick-yes _ _ _ _ (sym e ∙ f) (pick-yes _ _ _ _ (sym h ∙ g) (rw t at k))
-
-pub marshal-fits : (name : List ℕ) (d : Bool) → d ≡ startsWith name marshal → d ≡ true → 32 ≤ length name
-marshal-fits name d e t = starts-fits name marshal d e t
-
-pub ruleset names = (named-short, named-other, named-full, marshal-fits)
-
-module _ (s : List ℕ) (at from to next : ℕ) (p : Passed blank s at from) (q : Passed ofName s from to) (r : Passed blank s to next) where
-  left : rest s next ≡ past blank (past ofName (past blank (rest s at)))
-  left = r .left ∙ rw (q .left, p .left) refl
-
-  run : part s from (to - from) ≡ upTo ofName (past blank (rest s at))
-  run = q .run ∙ rw (p .left) refl
-
-  pub name-none : to ≡ from → NameAt s at (record { line = 3; next = next })
-  unfolding lineNamed same part
-  name-none e = record {
-    most = r .most;
-    line = rw (← run, e, sub-self from) (pick-yes _ _ _ _ refl refl);
-    left = left;
-  }
-
-  pub name-some : (l : ℕ) → (to ≡ from → ⊥) → l ≡ named (take (to - from) (drop from s)) → NameAt s at (record { line = l; next = next })
-  unfolding lineNamed part
-  name-some l n e =
-      let k : false ≡ same (part s from (to - from)) [] = same-lengths _ [] (λ z. n (omega (arith, q .least, q .most, length-part s from (to - from) (omega (arith, q .least, q .most))))) in
-      record { most = r .most; line = rw (← run) (pick-no _ _ _ _ (sym k) e); left = left }
 
 -- ---- where a type string ends
 same-none : (s : List ℕ) (i : ℕ) (b : Bool) → leb (length s) i ≡ b → b ≡ same (rest s i) []

@@ -1,4 +1,2 @@
-pub mod Scans
-pub mod Parentheses
 pub mod Answers
 pub mod Vectors

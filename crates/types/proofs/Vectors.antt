@@ -8,7 +8,8 @@ use Rattle.wire.specs.Got.{got, bad}
 use Rattle.wire.specs.declared.refusal.Fault.the-variants.{NotCarried, TooMany}
 use Rattle.texts.specs.Text.{text, same, among}
 use Rattle.typetable.specs.Table.{table, lineIn, nth, lineOf}
-use Rattle.types.specs.Strings.{blank, alphanumeric, ofName, ofParameters, past, upTo, named, counted, inside, opened, tail, typed, behind, plain, lineWith, stringWith, held, typeOf}
+use Rattle.typenames.specs.Names.{blank, alphanumeric, ofName, ofParameters, past, upTo, named, counted, inside}
+use Rattle.types.specs.Strings.{opened, tail, typed, behind, plain, lineWith, stringWith, held, typeOf}
 
 -- the string is taken as a key's or clustering column's type: its line, and whether it is reversed
 abbrev Is : String → ℕ → ℕ → Type 0

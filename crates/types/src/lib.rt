@@ -1,5 +1,4 @@
 // The types of columns: the table of 001, and type strings.
-mod characters; // characters.rt: the characters of type strings
 mod string; // string.rt: type strings
 
 ghost use mathlib.Core.Path.{_≡_};

@@ -1,10 +1,10 @@
 use Prim.Native.Nat.{_-_}
 use lib.ListN.{length}
-use Rattle.types.specs.Strings.{blank}
-use Rattle.types.proofs.Scans.{Passing, passing}
+use Rattle.typenames.specs.Names.{blank}
+use Rattle.typenames.proofs.Scans.{Passing, passing}
 use borrow.Author.Needs.{needs}
-use Rattle.types.proofs.string.skip_blanks.Statement.{statement}
-use Rattle.types.proofs.string.skip_blanks.Tie as tie
+use Rattle.typenames.proofs.skip_blanks.Statement.{statement}
+use Rattle.typenames.proofs.skip_blanks.Tie as tie
 
 abbrev Inv-loop : tie.InvT-loop
 Inv-loop s at i₀ i = Passing blank s at i

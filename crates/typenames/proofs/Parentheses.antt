@@ -11,10 +11,10 @@ use Rattle.wire.specs.Choose.{pick}
 use Rattle.wire.specs.declared.refusal.Fault.{Fault}
 use Rattle.wire.specs.declared.refusal.Fault.the-variants.{NotCarried, TooMany}
 use Rattle.wire.proofs.Choose.{pick-yes, pick-no, pick-ind}
-use Rattle.types.specs.declared.string.Skip.{Skip}
-use Rattle.types.specs.declared.string.Skip.the-variants.{Behind, Faulty}
-use Rattle.types.specs.Strings.{ofParameters, Closed, closed, faulty, counted, inside}
-use Rattle.types.specs.Parts.{saidSkip}
+use Rattle.typenames.specs.declared.Skip.{Skip}
+use Rattle.typenames.specs.declared.Skip.the-variants.{Behind, Faulty}
+use Rattle.typenames.specs.Names.{ofParameters, Closed, closed, faulty, counted, inside}
+use Rattle.typenames.specs.Parts.{saidSkip}
 use Rattle.texts.specs.Text.{rest}
 use Rattle.texts.proofs.Rest.{rest-none, rest-some, length-rest}
 

@@ -1,8 +1,8 @@
-use Rattle.types.specs.Strings.{blank}
+use Rattle.typenames.specs.Names.{blank}
 use Rattle.wire.proofs.Choose.{told, cases}
 use borrow.Author.Needs.{needs}
-use Rattle.types.proofs.characters.is_blank.Statement.{statement}
-use Rattle.types.proofs.characters.is_blank.Tie as tie
+use Rattle.typenames.proofs.characters.is_blank.Statement.{statement}
+use Rattle.typenames.proofs.characters.is_blank.Tie as tie
 
 slice-aggregate-among : tie.Need-slice-aggregate-among
 slice-aggregate-among c = search needs

@@ -1,16 +1,16 @@
 use borrow.Author.Needs.{needs}
 use Prim.Native.Nat.{_-_}
 use lib.ListN.{length}
-use Rattle.types.proofs.Parentheses.{Balancing, balancing}
+use Rattle.typenames.proofs.Parentheses.{Balancing, balancing}
 use Prim.Native.Nat.{ℕ, _<_}
 use borrow.Fn.Kinds.{In}
 use borrow.Fn.PlainCycle.{Measures, is, falls, and}
-use Rattle.types.proofs.string.inside.Reads as inside
-use Rattle.types.proofs.string.inside.Kinds as inside-kinds
-use Rattle.types.proofs.string.+inside.Lts-inside as inside-lts
-use Rattle.types.proofs.characters.is_parameter.Reads as is-parameter-reads
-use Rattle.types.proofs.string.+inside.{statement}
-use Rattle.types.proofs.string.+inside.Tie.{close}
+use Rattle.typenames.proofs.inside.Reads as inside
+use Rattle.typenames.proofs.inside.Kinds as inside-kinds
+use Rattle.typenames.proofs.+inside.Lts-inside as inside-lts
+use Rattle.typenames.proofs.characters.is_parameter.Reads as is-parameter-reads
+use Rattle.typenames.proofs.+inside.{statement}
+use Rattle.typenames.proofs.+inside.Tie.{close}
 
 abbrev μ-inside : Measures 1 inside-kinds.ps ℕ
 μ-inside κs a = a .1 .1 .0

@@ -1,10 +1,10 @@
 use Prim.Native.Nat.{_-_}
 use lib.ListN.{length}
-use Rattle.types.specs.Strings.{ofName}
-use Rattle.types.proofs.Scans.{Passing, passing}
+use Rattle.typenames.specs.Names.{ofName}
+use Rattle.typenames.proofs.Scans.{Passing, passing}
 use borrow.Author.Needs.{needs}
-use Rattle.types.proofs.string.name_end.Statement.{statement}
-use Rattle.types.proofs.string.name_end.Tie as tie
+use Rattle.typenames.proofs.name_end.Statement.{statement}
+use Rattle.typenames.proofs.name_end.Tie as tie
 
 abbrev Inv-loop : tie.InvT-loop
 Inv-loop s at i₀ i = Passing ofName s at i

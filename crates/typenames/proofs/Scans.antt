@@ -9,8 +9,8 @@ use lib.ListN.{length, getD, drop, length-drop}
 use lib.Seq.{take-suc, getD-drop}
 use Rattle.wire.specs.Store.{part}
 use Rattle.wire.proofs.Choose.{pick-yes, pick-no}
-use Rattle.types.specs.Strings.{past, upTo}
-use Rattle.types.specs.Parts.{Passed}
+use Rattle.typenames.specs.Names.{past, upTo}
+use Rattle.typenames.specs.Parts.{Passed}
 use Rattle.texts.specs.Text.{rest}
 use Rattle.texts.proofs.Rest.{rest-none, rest-some}
 

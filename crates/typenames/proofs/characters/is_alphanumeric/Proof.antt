@@ -1,7 +1,7 @@
-use Rattle.types.specs.Strings.{alphanumeric}
+use Rattle.typenames.specs.Names.{alphanumeric}
 use Rattle.wire.proofs.Choose.{cases}
-use Rattle.types.proofs.characters.is_alphanumeric.Statement.{statement}
-use Rattle.types.proofs.characters.is_alphanumeric.Tie as tie
+use Rattle.typenames.proofs.characters.is_alphanumeric.Statement.{statement}
+use Rattle.typenames.proofs.characters.is_alphanumeric.Tie as tie
 
 returns : tie.Need-returns
 unfolding alphanumeric

@@ -1,7 +1,7 @@
-use Rattle.types.proofs.Answers.{names}
+use Rattle.typenames.proofs.Names.{names}
 use borrow.Author.Needs.{needs}
-use Rattle.types.proofs.string.named.Statement.{statement}
-use Rattle.types.proofs.string.named.Tie as tie
+use Rattle.typenames.proofs.named.Statement.{statement}
+use Rattle.typenames.proofs.named.Tie as tie
 
 among-requires : tie.Need-among-requires
 among-requires c κs = search needs

@@ -1,7 +1,7 @@
-use Rattle.types.proofs.Answers.{name-none, name-some}
+use Rattle.typenames.proofs.Names.{name-none, name-some}
 use borrow.Author.Needs.{needs}
-use Rattle.types.proofs.string.name_at.Statement.{statement}
-use Rattle.types.proofs.string.name_at.Tie as tie
+use Rattle.typenames.proofs.name_at.Statement.{statement}
+use Rattle.typenames.proofs.name_at.Tie as tie
 
 skip-blanks-requires : tie.Need-skip-blanks-requires
 skip-blanks-requires c κs = search needs

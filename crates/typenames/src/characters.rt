@@ -1,6 +1,6 @@
 // The characters of type strings.
 ghost use mathlib.Core.Path.{_≡_};
-ghost use Rattle.types.specs.Strings.{blank, alphanumeric, ofName, ofParameters};
+ghost use Rattle.typenames.specs.Names.{blank, alphanumeric, ofName, ofParameters};
 
 // Whether c is skipped before and behind a name.
 pub fn is_blank(c: u8) -> bool
