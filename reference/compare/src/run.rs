@@ -30,7 +30,10 @@ pub fn run(plan: &Plan) -> Result<(), Failed> {
         compared += run_limits(kind.as_ref())?;
         let count = plan.count.unwrap_or(kind.count());
         let indices = plan.from..plan.from.saturating_add(count);
-        let accepted = run_cases(kind.as_ref(), plan.seed, indices)?;
+        let accepted = match run_cases(kind.as_ref(), plan.seed, indices) {
+            Ok(accepted) => accepted,
+            Err(stop) => return tell(kind.as_ref(), plan.seed, &stop),
+        };
         let share = 100.0 * accepted as f64 / count.max(1) as f64;
         println!("{}: {count} cases, {share:.1}% accepted", kind.name());
         compared += count;
@@ -68,9 +71,9 @@ enum Why {
 }
 
 /// Compares the cases of the indices, on every processor: how many are
-/// accepted.  What is told does not depend on how many processors there are:
-/// of the cases that differ, it is the one with the least index.
-fn run_cases(kind: &dyn Kind, seed: u64, indices: Range<u64>) -> Result<u64, Failed> {
+/// accepted, or the first that differs.  Neither depends on how many processors
+/// there are.
+fn run_cases(kind: &dyn Kind, seed: u64, indices: Range<u64>) -> Result<u64, Stop> {
     let lanes = thread::available_parallelism().map_or(1, NonZeroUsize::get);
     let least = &AtomicU64::new(u64::MAX);
     let ended: Vec<Result<u64, Stop>> = thread::scope(|scope| {
@@ -82,11 +85,16 @@ fn run_cases(kind: &dyn Kind, seed: u64, indices: Range<u64>) -> Result<u64, Fai
         let ended = started.into_iter().map(|lane| lane.join());
         ended.map(|lane| lane.expect("no panic")).collect()
     });
-    let stops = ended.iter().filter_map(|lane| lane.as_ref().err());
-    match stops.min_by_key(|stop| stop.index) {
-        Some(stop) => Err(tell(kind, seed, stop)?),
-        None => Ok(ended.iter().flatten().sum()),
+    let mut accepted = 0;
+    let mut stops = Vec::new();
+    for lane in ended {
+        match lane {
+            Ok(count) => accepted += count,
+            Err(stop) => stops.push(stop),
+        }
     }
+    let first = stops.into_iter().min_by_key(|stop| stop.index);
+    first.map_or(Ok(accepted), Err)
 }
 
 /// Compares the cases of the indices, which ascend, up to the first that
@@ -122,10 +130,10 @@ fn run_one(kind: &dyn Kind, seed: u64, index: u64) -> Result<bool, Stop> {
 }
 
 /// Says where both differ, and stores the case.
-fn tell(kind: &dyn Kind, seed: u64, stop: &Stop) -> Result<Failed, Failed> {
+fn tell(kind: &dyn Kind, seed: u64, stop: &Stop) -> Result<(), Failed> {
     let Stop { index, case, why } = stop;
     let (library, reference) = match why {
-        Why::Unreadable(text) => return Ok(Failed::new(text)),
+        Why::Unreadable(text) => return Err(Failed::new(text)),
         Why::Different { library, reference } => (library, reference),
     };
     println!(
@@ -148,7 +156,7 @@ fn tell(kind: &dyn Kind, seed: u64, stop: &Stop) -> Result<Failed, Failed> {
         kind.name()
     );
     println!("or: compare run {again}");
-    Ok(Failed::told())
+    Err(Failed::told())
 }
 
 /// Slices at and over the limit, which are too large for a container.
@@ -173,9 +181,55 @@ fn run_limits(kind: &dyn Kind) -> Result<u64, Failed> {
 mod tests {
     use std::collections::BTreeSet;
 
-    use reference::batch::run_case;
+    use reference::batch::{run_case, Call};
 
     use super::*;
+    use crate::kinds::Limit;
+
+    /// Differs at some of the cases, by their answers alone.
+    struct Fickle;
+
+    impl Kind for Fickle {
+        fn name(&self) -> &'static str {
+            "fickle"
+        }
+
+        fn count(&self) -> u64 {
+            0
+        }
+
+        fn generate(&self, rng: &mut Rng) -> Case {
+            kinds::all()[0].generate(rng)
+        }
+
+        fn library(&self, _: &Call, _: bool) -> Option<String> {
+            None
+        }
+
+        fn compare(&self, call: &Call) -> Compared {
+            let reference = self.reference(call, true);
+            let library = String::new();
+            if reference.bytes().map(u64::from).sum::<u64>() % 97 == 0 {
+                return Compared::Different { library, reference };
+            }
+            Compared::Same(true)
+        }
+
+        fn limits(&self) -> Vec<Limit> {
+            Vec::new()
+        }
+    }
+
+    #[test]
+    fn the_first_difference_is_told() {
+        let first = |mut indices: Range<u64>| indices.find(|i| run_one(&Fickle, 1, *i).is_err());
+        for from in (0..2_000).step_by(100) {
+            let found = run_cases(&Fickle, 1, from..from + 3_000);
+            let index = found.err().map(|stop| stop.index);
+            assert!(index.is_some());
+            assert_eq!(index, first(from..from + 3_000));
+        }
+    }
 
     /// Number and slice of each refusal, or the first words of what is taken,
     /// among the first cases.
