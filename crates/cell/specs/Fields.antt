@@ -64,13 +64,16 @@ variableAt s at end =
     (pick (ltb (end - n) len) (bad PastEnd at)
     (got (span n len) (n + len))))
 
+-- a value of a width
+abbrev pub widthAt : ℕ → Reader Span
+widthAt w s at end =
+    pick (ltb end at) (bad PastEnd at)
+    (pick (ltb (end - at) w) (bad PastEnd at)
+    (got (span at w) (at + w)))
+
 -- a value of a width, or (255) after its length: 2 at its own first byte where it is cut
 unfoldable pub valueAt : ℕ → Reader Span
-valueAt w s at end =
-    pick (eqb w 255) (variableAt s at end)
-    (pick (ltb end at) (bad PastEnd at)
-    (pick (ltb (end - at) w) (bad PastEnd at)
-    (got (span at w) (at + w))))
+valueAt w s at end = pick (eqb w 255) (variableAt s at end) (widthAt w s at end)
 
 -- what the code's answers say
 unfoldable pub saidPart : Part → Got Span

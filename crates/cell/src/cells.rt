@@ -114,7 +114,23 @@ fn read_last(
             next: at,
         };
     }
-    match fields::read_value(s, at, end, width) {
+    // As read_value does, but small enough to be compiled into read_cell.
+    if width == 255 {
+        return match fields::read_variable(s, at, end) {
+            Part::Lies { value, next } => Found::Read {
+                cell: Cell {
+                    kind,
+                    timestamp,
+                    local,
+                    ttl,
+                    value,
+                },
+                next,
+            },
+            Part::Refused { fault, place } => Found::Refused { fault, place },
+        };
+    }
+    match fields::read_fixed(s, at, end, width) {
         Part::Lies { value, next } => Found::Read {
             cell: Cell {
                 kind,

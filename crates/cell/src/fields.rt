@@ -1,7 +1,7 @@
 // The fields that stand in rows, markers and cells.
 ghost use mathlib.Core.Path.{_≡_};
 ghost use Rattle.wire.specs.Got.{saidNum};
-ghost use Rattle.cell.specs.Fields.{byteAt, inAt, timestampAt, localAt, ttlAt, deletionAt, variableAt, valueAt, saidPart, saidDeleted};
+ghost use Rattle.cell.specs.Fields.{byteAt, inAt, timestampAt, localAt, ttlAt, deletionAt, variableAt, widthAt, valueAt, saidPart, saidDeleted};
 use wire::number::Num;
 use wire::refusal::Fault;
 use wire::times::Bases;
@@ -131,7 +131,7 @@ pub fn read_deletion(s: &[u8], at: usize, end: usize, b: Bases) -> Deleted
 }
 
 // A value after its length.
-fn read_variable(s: &[u8], at: usize, end: usize) -> Part
+pub(crate) fn read_variable(s: &[u8], at: usize, end: usize) -> Part
     ensures { λ r. ⌜ saidPart r ≡ variableAt (now (s .entry)) at end ⌝ }
 {
     match varints::read(s, at, end) {
@@ -158,13 +158,10 @@ fn read_variable(s: &[u8], at: usize, end: usize) -> Part
     }
 }
 
-// A value of the width, or (255) after its length.
-pub fn read_value(s: &[u8], at: usize, end: usize, width: u8) -> Part
-    ensures { λ r. ⌜ saidPart r ≡ valueAt width (now (s .entry)) at end ⌝ }
+// A value of the width.
+pub(crate) fn read_fixed(s: &[u8], at: usize, end: usize, width: u8) -> Part
+    ensures { λ r. ⌜ saidPart r ≡ widthAt width (now (s .entry)) at end ⌝ }
 {
-    if width == 255 {
-        return read_variable(s, at, end);
-    }
     if end < at {
         return Part::Refused {
             fault: Fault::PastEnd,
@@ -182,4 +179,14 @@ pub fn read_value(s: &[u8], at: usize, end: usize, width: u8) -> Part
         value: Span { start: at, len },
         next: at + len,
     }
+}
+
+// A value of the width, or (255) after its length.
+pub fn read_value(s: &[u8], at: usize, end: usize, width: u8) -> Part
+    ensures { λ r. ⌜ saidPart r ≡ valueAt width (now (s .entry)) at end ⌝ }
+{
+    if width == 255 {
+        return read_variable(s, at, end);
+    }
+    read_fixed(s, at, end, width)
 }

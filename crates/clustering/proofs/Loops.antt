@@ -12,6 +12,7 @@ use mir.Val.{Fits}
 use Rattle.wire.specs.Got.{Got, got, bad, on, saidNum}
 use Rattle.wire.specs.declared.refusal.Fault.{Fault}
 use Rattle.wire.specs.declared.number.Num.{Num}
+use Rattle.wire.specs.Choose.{pick}
 use Rattle.wire.proofs.Choose.{pick-yes, pick-no}
 use Rattle.cell.specs.Fields.{saidPart}
 use Rattle.cell.specs.declared.fields.Span.{Span}
@@ -49,7 +50,13 @@ module _ (k header : ℕ) where
       unfolding badHeader
       heading-more e = record { rest = pick-no _ _ _ _ e refl ∙ ap (λ (x : ℕ). badHeader x h) (sym next) ∙ i .rest }
 
-pub ruleset heading = (heading-none, heading-end, heading-null, heading-more, ne-eqb)
+-- a header without bits is never refused
+pub heading-zero : (k header : ℕ) → header ≡ 0 → false ≡ badHeader k header
+unfolding badHeader pick
+heading-zero zero header e = rw e refl
+heading-zero (suc k) header e = rw e (heading-zero k 0 refl)
+
+pub ruleset heading = (heading-none, heading-end, heading-null, heading-more, heading-zero, ne-eqb)
 
 -- ---- values
 pub widths-count : (c : List ℕ) (at k : ℕ) → length (widthsAt c at k) ≡ k

@@ -33,6 +33,10 @@ pub enum Prefixed {
 pub fn bad_header(k: u64, header: u64) -> bool
     ensures { λ r. ⌜ r ≡ badHeader k header ⌝ }
 {
+    // Most headers have no empty value.
+    if header == 0 {
+        return false;
+    }
     let mut left = k;
     let mut h = header;
     while 0 < left {

@@ -11,23 +11,14 @@ read-variable-requires c κs = search needs
 
 returns : tie.Need-returns
 unfolding valueAt
-returns c = search (reading, answers, cases) depth 12
+returns c = search (reading, answers, cases, needs) depth 12
+
+read-fixed-requires : tie.Need-read-fixed-requires
+read-fixed-requires c κs = search needs
 
 returns-2 : tie.Need-returns-2
 unfolding valueAt
-returns-2 c = search (reading, answers, cases) depth 12
-
-returns-3 : tie.Need-returns-3
-unfolding valueAt
-returns-3 c = search (reading, answers, cases) depth 12
-
-add-t8 : tie.Need-add-t8
-add-t8 c = search needs
-
-returns-4 : tie.Need-returns-4
-unfolding valueAt
-returns-4 c = search (reading, answers, cases) depth 12
+returns-2 c = search (reading, answers, cases, needs) depth 12
 
 pub read-value-spec : {M : Type 1} → statement M
-read-value-spec =
-    tie.close (tie.spec read-variable-requires returns returns-2 returns-3 add-t8 returns-4)
+read-value-spec = tie.close (tie.spec read-variable-requires returns read-fixed-requires returns-2)
