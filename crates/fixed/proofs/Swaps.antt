@@ -197,6 +197,9 @@ module _ (s : List ℕ) (b : (k : ℕ) → getD s k 0 < 256) (at : ℕ) where
       ≡ ((getD s (at + 3) 0 * 256 + getD s (at + 2) 0) * 256 + getD s (at + 1) 0) * 256 + getD s at 0 = omega arith in
       rw (e, f, swap-spelt _ _ _ _ (b (at + 3)) (b (at + 2)) (b (at + 1)) (b at)) (omega arith)
 
+pub four-read : (s : List ℕ) → ((k : ℕ) → getD s k 0 < 256) → (at x v : ℕ) → x ≡ littleFour s at → v ≡ swapFour x → v ≡ bigEndian 0 s at 4
+four-read s b at x v e f = f ∙ rw e (swap-little s b at)
+
 pub little-sum : (s : List ℕ) → ((k : ℕ) → getD s k 0 < 256) → (at to l h : ℕ) → l ≡ littleFour s at → h ≡ littleFour s to → Fits w64 (l + h * 4294967296)
 little-sum s b at to l h e f = omega (arith, little-lt s b at, little-lt s b to)
 

@@ -94,6 +94,27 @@ fn little_four(s: &[u8], at: usize) -> u64
     a + b * 256 + c * 65536 + d * 16777216
 }
 
+// The number of the four bytes at at, by one load.
+// Internal: for readers that have tested that the bytes are there.
+pub fn four_in(s: &[u8], at: usize) -> u64
+    requires { ⌜ at + 4 ≤ length (now s) ⌝ }
+    ensures { λ r. ⌜ r ≡ bigEndian 0 (now (s .entry)) at 4 ⌝ }
+{
+    let x = little_four(s, at);
+    swapped_four(x)
+}
+
+// The number of the eight bytes at at, by one load.
+// Internal: for readers that have tested that the bytes are there.
+pub fn eight_in(s: &[u8], at: usize) -> u64
+    requires { ⌜ at + 8 ≤ length (now s) ⌝ }
+    ensures { λ r. ⌜ r ≡ bigEndian 0 (now (s .entry)) at 8 ⌝ }
+{
+    let low = little_four(s, at);
+    let high = little_four(s, at + 4);
+    swapped(low + high * 4294967296)
+}
+
 // The number of the k bytes at at, with zeros behind the end of s: near that end alone, so that a call may be slow.
 fn padded(s: &[u8], at: usize, k: usize) -> u64
     requires { ⌜ (at ≤ length (now s)) × (k ≤ 8) ⌝ }
@@ -119,9 +140,7 @@ pub fn eight(s: &[u8], at: usize) -> u64
     if s.len() - at < 8 {
         return padded(s, at, 8);
     }
-    let low = little_four(s, at);
-    let high = little_four(s, at + 4);
-    swapped(low + high * 4294967296)
+    eight_in(s, at)
 }
 
 // Byte k of x, counted from the lowest.

@@ -13,10 +13,10 @@ use Rattle.cell.specs.declared.fields.Deletion.{Deletion}
 use Rattle.items.specs.declared.Item.{Item}
 use Rattle.taken.specs.Fields.{stray}
 use Rattle.taken.specs.Records.{outside}
-use Rattle.taken.specs.Tests.{unlike, badPartition, badRow, badStatic, badMarker, badClustering, badCell, badEnd}
+use Rattle.taken.specs.Tests.{unlike, badPartition, badStatic, badMarker, badEnd}
 use Rattle.intake.specs.Records.{saidRecord, wrongIn}
 use Rattle.intake.specs.declared.tests.Turn.{Turn}
-use Rattle.intake.specs.declared.tests.Turn.the-variants.{Partition, Static, Row, Marker, Value, Cell, End}
+use Rattle.intake.specs.declared.tests.Turn.the-variants.{Partition, Static, Marker, End}
 use Rattle.intake.specs.declared.ranges.Record.{Record}
 use Rattle.intake.specs.declared.ranges.Record.the-variants.{Found, Refused}
 
@@ -97,24 +97,12 @@ module _ (r : Bool) (bytes : List ℕ) (t : Turn) (i : Item) where
   unfolding wrongIn
   wrong-static first statics e f = rw e f
 
-  pub wrong-row : t ≡ Row → r ≡ badRow 3 i → r ≡ wrongIn bytes t i
-  unfolding wrongIn
-  wrong-row e f = rw e f
-
   pub wrong-marker : (opened : Deletion) → t ≡ Marker opened → r ≡ badMarker opened i → r ≡ wrongIn bytes t i
   unfolding wrongIn
   wrong-marker opened e f = rw e f
-
-  pub wrong-value : (column w : ℕ) → t ≡ Value column w → r ≡ badClustering bytes column w i → r ≡ wrongIn bytes t i
-  unfolding wrongIn
-  wrong-value column w e f = rw e f
-
-  pub wrong-cell : (column w : ℕ) → t ≡ Cell column w → r ≡ badCell bytes column w i → r ≡ wrongIn bytes t i
-  unfolding wrongIn
-  wrong-cell column w e f = rw e f
 
   pub wrong-end : (opened : Deletion) → t ≡ End opened → r ≡ badEnd opened i → r ≡ wrongIn bytes t i
   unfolding wrongIn
   wrong-end opened e f = rw e f
 
-pub ruleset wrongs = (wrong-partition, wrong-static, wrong-row, wrong-marker, wrong-value, wrong-cell, wrong-end)
+pub ruleset wrongs = (wrong-partition, wrong-static, wrong-marker, wrong-end)

@@ -3,6 +3,7 @@ ghost use mathlib.Core.Path.{_≡_};
 ghost use Prim.Native.Nat.{_+_, _≤_};
 ghost use lib.ListN.{length};
 ghost use Rattle.taken.specs.Fields.{strayBytes, hasTime, hasExpiry, hasLocal, hasMark, hasSecond, hasColumn, stray, strayFirst, strayLast, strayNumbers};
+ghost use Rattle.intake.specs.Records.{strayRecord};
 use items::Item;
 
 // A byte as a number.
@@ -13,14 +14,14 @@ pub(crate) fn wide(b: u8) -> u64
 }
 
 // Whether a byte that no record uses is not 0.
-pub(crate) fn is_stray_bytes(s: &[u8], at: usize) -> bool
+fn is_stray_bytes(s: &[u8], at: usize) -> bool
     requires { ⌜ at + 64 ≤ length (now s) ⌝ }
     ensures { λ r. ⌜ r ≡ strayBytes (now (s .entry)) at ⌝ }
 {
     if 0 < wide(s[at + 3]) {
         return true;
     }
-    0 < fixed::big_endian(s, at + 44, 4, 0)
+    0 < fixed::four_in(s, at + 44)
 }
 
 // Whether a record uses its timestamp.
@@ -120,11 +121,22 @@ fn is_stray_last(i: Item) -> bool
 }
 
 // Whether a number that is not used is not zero.
-pub(crate) fn is_stray_numbers(i: Item) -> bool
+fn is_stray_numbers(i: Item) -> bool
     ensures { λ r. ⌜ r ≡ strayNumbers i ⌝ }
 {
     if is_stray_first(i) {
         return true;
     }
     is_stray_last(i)
+}
+
+// Whether what the record at at does not use is not zero; i are its numbers.
+pub(crate) fn is_stray_record(s: &[u8], at: usize, i: Item) -> bool
+    requires { ⌜ at + 64 ≤ length (now s) ⌝ }
+    ensures { λ r. ⌜ r ≡ strayRecord (now (s .entry)) at i ⌝ }
+{
+    if is_stray_bytes(s, at) {
+        return true;
+    }
+    is_stray_numbers(i)
 }

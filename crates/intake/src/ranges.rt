@@ -1,8 +1,8 @@
 // The ranges of a record's numbers.
 ghost use mathlib.Core.Path.{_≡_};
 ghost use Prim.Native.Nat.{_+_, _<_, _^_};
-ghost use Rattle.taken.specs.Records.{outside, lastRangesAt, rangesAt};
-ghost use Rattle.intake.specs.Records.{saidRecord};
+ghost use Rattle.taken.specs.Records.{outside, rangesAt};
+ghost use Rattle.intake.specs.Records.{saidRecord, ownLastAt, ownAt, secondAt};
 use crate::fields;
 use items::Item;
 use wire::refusal::Fault;
@@ -30,10 +30,10 @@ fn is_outside(used: bool, lo: u64, hi: u64, base: u64, v: u64) -> bool
     false
 }
 
-// The record at at, its last numbers in range.
-fn read_last_ranges(b: Bases, i: Item, at: usize) -> Record
+// The record at at, its own local times in range.
+fn read_own_last(b: Bases, i: Item, at: usize) -> Record
     requires { ⌜ at + 64 < 2 ^ 64 ⌝ }
-    ensures { λ r. ⌜ saidRecord r ≡ lastRangesAt b i at ⌝ }
+    ensures { λ r. ⌜ saidRecord r ≡ ownLastAt b i at ⌝ }
 {
     if is_outside(fields::has_local(i), 0, 2147483646, b.local, i.local) {
         return Record::Refused {
@@ -47,29 +47,16 @@ fn read_last_ranges(b: Bases, i: Item, at: usize) -> Record
             place: at + 28,
         };
     }
-    let second = fields::has_second(i);
-    if is_outside(second, 1, 18446744073709551615, b.timestamp, i.mark2) {
-        return Record::Refused {
-            fault: Fault::OutOfRange,
-            place: at + 32,
-        };
-    }
-    if is_outside(second, 0, 2147483646, b.local, i.local2) {
-        return Record::Refused {
-            fault: Fault::OutOfRange,
-            place: at + 40,
-        };
-    }
     Record::Found {
         item: i,
         next: at + 64,
     }
 }
 
-// The record at at, its numbers in range.
-pub(crate) fn read_ranges(b: Bases, i: Item, at: usize) -> Record
+// The record at at, its numbers in range but for a second mark and local time.
+pub(crate) fn read_own(b: Bases, i: Item, at: usize) -> Record
     requires { ⌜ at + 64 < 2 ^ 64 ⌝ }
-    ensures { λ r. ⌜ saidRecord r ≡ rangesAt b i at ⌝ }
+    ensures { λ r. ⌜ saidRecord r ≡ ownAt b i at ⌝ }
 {
     if is_outside(fields::has_expiry(i), 1, 2147483647, b.ttl, i.ttl) {
         return Record::Refused {
@@ -101,5 +88,40 @@ pub(crate) fn read_ranges(b: Bases, i: Item, at: usize) -> Record
             place: at + 16,
         };
     }
-    read_last_ranges(b, i, at)
+    read_own_last(b, i, at)
+}
+
+// The record at at, its second mark and local time in range.
+fn read_second(b: Bases, i: Item, at: usize) -> Record
+    requires { ⌜ at + 64 < 2 ^ 64 ⌝ }
+    ensures { λ r. ⌜ saidRecord r ≡ secondAt b i at ⌝ }
+{
+    let second = fields::has_second(i);
+    if is_outside(second, 1, 18446744073709551615, b.timestamp, i.mark2) {
+        return Record::Refused {
+            fault: Fault::OutOfRange,
+            place: at + 32,
+        };
+    }
+    if is_outside(second, 0, 2147483646, b.local, i.local2) {
+        return Record::Refused {
+            fault: Fault::OutOfRange,
+            place: at + 40,
+        };
+    }
+    Record::Found {
+        item: i,
+        next: at + 64,
+    }
+}
+
+// The record at at, its numbers in range.
+pub(crate) fn read_ranges(b: Bases, i: Item, at: usize) -> Record
+    requires { ⌜ at + 64 < 2 ^ 64 ⌝ }
+    ensures { λ r. ⌜ saidRecord r ≡ rangesAt b i at ⌝ }
+{
+    match read_own(b, i, at) {
+        Record::Found { item, next: _ } => read_second(b, item, at),
+        Record::Refused { fault, place } => Record::Refused { fault, place },
+    }
 }

@@ -4,6 +4,7 @@ ghost use Prim.Native.Nat.{_-_};
 ghost use lib.ListN.{length};
 ghost use Rattle.wire.specs.Got.{saidNum};
 ghost use Rattle.taken.specs.Records.{recordAt, kindAt};
+ghost use Rattle.taken.specs.Tests.{badRow, badClustering, badCell};
 ghost use Rattle.intake.specs.Records.{saidRecord, plainAt, wrongIn};
 use crate::fields;
 use crate::ranges;
@@ -49,13 +50,7 @@ fn read_plain(s: &[u8], at: usize) -> Record
         };
     }
     let item = recorded::fields::read_item(s, at);
-    if fields::is_stray_bytes(s, at) {
-        return Record::Refused {
-            fault: Fault::BadRecord,
-            place: at,
-        };
-    }
-    if fields::is_stray_numbers(item) {
+    if fields::is_stray_record(s, at, item) {
         return Record::Refused {
             fault: Fault::BadRecord,
             place: at,
@@ -80,4 +75,83 @@ pub fn read_record(s: &[u8], at: usize, b: Bases, bytes: &[u8], turn: Turn) -> R
         }
         Record::Refused { fault, place } => Record::Refused { fault, place },
     }
+}
+
+// The record at at, of a row. This and the next two are the most frequent: each has its own function, so that only what its kind uses is
+// tested; the kind first, which leaves little of the rest.
+pub fn read_row(s: &[u8], at: usize, b: Bases) -> Record
+    ensures { λ r. ⌜ saidRecord r ≡ recordAt b (badRow 3) (now (s .entry)) at (length (now (s .entry))) ⌝ }
+{
+    if left_of(s.len(), at) < 64 {
+        return Record::Refused {
+            fault: Fault::BadRecord,
+            place: s.len(),
+        };
+    }
+    let item = recorded::fields::read_item(s, at);
+    if tests::is_bad_row(3, item) {
+        return Record::Refused {
+            fault: Fault::BadRecord,
+            place: at,
+        };
+    }
+    if fields::is_stray_record(s, at, item) {
+        return Record::Refused {
+            fault: Fault::BadRecord,
+            place: at,
+        };
+    }
+    ranges::read_own(b, item, at)
+}
+
+// The record at at, of the clustering value of a column of the width.
+pub fn read_value(s: &[u8], at: usize, b: Bases, bytes: &[u8], column: u64, width: u8) -> Record
+    ensures { λ r. ⌜ saidRecord r ≡ recordAt b (badClustering (now (bytes .entry)) column width) (now (s .entry)) at (length (now (s .entry))) ⌝ }
+{
+    if left_of(s.len(), at) < 64 {
+        return Record::Refused {
+            fault: Fault::BadRecord,
+            place: s.len(),
+        };
+    }
+    let item = recorded::fields::read_item(s, at);
+    if tests::is_bad_clustering(bytes, column, width, item) {
+        return Record::Refused {
+            fault: Fault::BadRecord,
+            place: at,
+        };
+    }
+    if fields::is_stray_record(s, at, item) {
+        return Record::Refused {
+            fault: Fault::BadRecord,
+            place: at,
+        };
+    }
+    ranges::read_own(b, item, at)
+}
+
+// The record at at, of the cell of a column of the width.
+pub fn read_cell(s: &[u8], at: usize, b: Bases, bytes: &[u8], column: u64, width: u8) -> Record
+    ensures { λ r. ⌜ saidRecord r ≡ recordAt b (badCell (now (bytes .entry)) column width) (now (s .entry)) at (length (now (s .entry))) ⌝ }
+{
+    if left_of(s.len(), at) < 64 {
+        return Record::Refused {
+            fault: Fault::BadRecord,
+            place: s.len(),
+        };
+    }
+    let item = recorded::fields::read_item(s, at);
+    if tests::is_bad_cell(bytes, column, width, item) {
+        return Record::Refused {
+            fault: Fault::BadRecord,
+            place: at,
+        };
+    }
+    if fields::is_stray_record(s, at, item) {
+        return Record::Refused {
+            fault: Fault::BadRecord,
+            place: at,
+        };
+    }
+    ranges::read_own(b, item, at)
 }

@@ -6,18 +6,13 @@ use crate::fields;
 use cell::fields::Deletion;
 use items::Item;
 
-// What a record may be where it stands.
+// What a record may be where it stands, but for rows, clustering values and cells.
 pub enum Turn {
     Partition,
     // `first` is 1 right behind the partition's record, else 0.
     Static { first: u8, statics: u64 },
-    Row,
     // The deletion of the open range.
     Marker { opened: Deletion },
-    // The clustering value of a column of the width.
-    Value { column: u64, width: u8 },
-    // The cell of a column of the width.
-    Cell { column: u64, width: u8 },
     // The deletion of the open range.
     End { opened: Deletion },
 }
@@ -140,7 +135,7 @@ fn is_bad_partition(bytes: &[u8], i: Item) -> bool
 }
 
 // No record of a row, or (kind 2) of a static one.
-fn is_bad_row(kind: u64, i: Item) -> bool
+pub(crate) fn is_bad_row(kind: u64, i: Item) -> bool
     ensures { λ r. ⌜ r ≡ badRow kind i ⌝ }
 {
     if i.kind != kind {
@@ -197,7 +192,7 @@ fn is_bad_marker(opened: Deletion, i: Item) -> bool
 }
 
 // No record of the clustering value of a column of the width.
-fn is_bad_clustering(bytes: &[u8], column: u64, width: u8, i: Item) -> bool
+pub(crate) fn is_bad_clustering(bytes: &[u8], column: u64, width: u8, i: Item) -> bool
     ensures { λ r. ⌜ r ≡ badClustering (now (bytes .entry)) column width i ⌝ }
 {
     if i.kind != 5 {
@@ -229,7 +224,7 @@ fn is_bad_cell_place(bytes: &[u8], width: u8, i: Item) -> bool
 }
 
 // No record of a cell of a column of the width.
-fn is_bad_cell(bytes: &[u8], column: u64, width: u8, i: Item) -> bool
+pub(crate) fn is_bad_cell(bytes: &[u8], column: u64, width: u8, i: Item) -> bool
     ensures { λ r. ⌜ r ≡ badCell (now (bytes .entry)) column width i ⌝ }
 {
     if i.kind != 6 {
@@ -267,10 +262,7 @@ pub(crate) fn is_wrong(bytes: &[u8], turn: Turn, i: Item) -> bool
     match turn {
         Turn::Partition => is_bad_partition(bytes, i),
         Turn::Static { first, statics } => is_bad_static(first, statics, i),
-        Turn::Row => is_bad_row(3, i),
         Turn::Marker { opened } => is_bad_marker(opened, i),
-        Turn::Value { column, width } => is_bad_clustering(bytes, column, width, i),
-        Turn::Cell { column, width } => is_bad_cell(bytes, column, width, i),
         Turn::End { opened } => is_bad_end(opened, i),
     }
 }

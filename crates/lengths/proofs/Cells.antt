@@ -24,10 +24,9 @@ use Rattle.taken.specs.Records.{recordAt}
 use Rattle.taken.specs.Tests.{badCell}
 use Rattle.taken.specs.Entries.{cellOf, takenCells}
 use Rattle.taken.proofs.Goods.{Good, record-gives}
-use Rattle.intake.specs.Records.{saidRecord, wrongIn}
+use Rattle.intake.specs.Records.{saidRecord}
 use Rattle.intake.specs.declared.ranges.Record.{Record}
 use Rattle.intake.specs.declared.ranges.Record.the-variants.{Found, Refused}
-use Rattle.intake.specs.declared.tests.Turn.the-variants.{Cell as cell-turn}
 use Rattle.cellform.specs.Sizes.{cellSize}
 use Rattle.cellform.proofs.Sizes.{cell-size-most}
 use Rattle.counting.proofs.Follows.{on-got, on-bad}
@@ -236,19 +235,15 @@ module _ (z : Got (ℕ × ℕ)) (b : Bases) (row : Times) (bytes c s : List ℕ)
           ap (Measure b row bytes j (m + columnsFrom i j) n (W ∷ Rest)) (sym (cells-some b bytes c s (length s) j (base + 16 * j) (k - j - 1) p (cell-here s p j told (omega (arith, v .few)))))
           ∙ (rw e at f)
 
-      module _ (r : Record) (found : saidRecord r ≡ recordAt b (wrongIn bytes (cell-turn j (getD c (base + 16 * j + 3) 0))) s p (length s)) where
-        record-as : saidRecord r ≡ recordAt b (badCell bytes j W) s p (length s)
-        unfolding wrongIn
-        record-as = found
-
+      module _ (r : Record) (found : saidRecord r ≡ recordAt b (badCell bytes j (getD c (base + 16 * j + 3) 0)) s p (length s)) where
         pub celling-bad : (f : Fault) (x : ℕ) → r ≡ Refused f x → saidCelled (celled-refused f x) ≡ z
         unfolding saidCelled saidRecord Measure
-        celling-bad f x e = ap (Measure b row bytes j (m + columnsFrom i j) n (W ∷ Rest)) (sym (on-bad _ f x More (sym record-as ∙ rw e refl))) ∙ here
+        celling-bad f x e = ap (Measure b row bytes j (m + columnsFrom i j) n (W ∷ Rest)) (sym (on-bad _ f x More (sym found ∙ rw e refl))) ∙ here
 
         module _ (y : Item) (q : ℕ) (e : r ≡ Found y q) where
           got-as : recordAt b (badCell bytes j W) s p (length s) ≡ got y q
           unfolding saidRecord
-          got-as = sym record-as ∙ rw e refl
+          got-as = sym found ∙ rw e refl
 
           good : Good b (badCell bytes j W) s p (length s) y q
           good = record-gives b _ s p (length s) .given y q got-as
@@ -297,8 +292,8 @@ module _ (z : Got (ℕ × ℕ)) (b : Bases) (row : Times) (bytes c s : List ℕ)
                 let a : _≡_ {A = Got (ℕ × ℕ)} (bad f q) (got (t .value) (t .place)) = ap (Measure b row bytes j (m + columnsFrom i j) n (W ∷ Rest)) (sym (on-bad _ f q More e)) ∙ here ∙ t .is in
                 never a
 
-        found : saidRecord (Found (itemOf s p) (p + 64)) ≡ recordAt b (wrongIn bytes (cell-turn j (getD c (base + 16 * j + 3) 0))) s p (length s)
-        unfolding saidRecord wrongIn
+        found : saidRecord (Found (itemOf s p) (p + 64)) ≡ recordAt b (badCell bytes j (getD c (base + 16 * j + 3) 0)) s p (length s)
+        unfolding saidRecord
         found = sym sure
 
         pub sizing-record : p + 64 ≤ length s

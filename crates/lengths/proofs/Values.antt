@@ -22,10 +22,9 @@ use Rattle.taken.specs.Records.{recordAt}
 use Rattle.taken.specs.Tests.{badClustering}
 use Rattle.taken.specs.Entries.{valueOf, takenValues, takenPrefix}
 use Rattle.taken.proofs.Goods.{Good, record-gives}
-use Rattle.intake.specs.Records.{saidRecord, wrongIn}
+use Rattle.intake.specs.Records.{saidRecord}
 use Rattle.intake.specs.declared.ranges.Record.{Record}
 use Rattle.intake.specs.declared.ranges.Record.the-variants.{Found, Refused}
-use Rattle.intake.specs.declared.tests.Turn.the-variants.{Value}
 use Rattle.cellform.specs.Sizes.{valueSize}
 use Rattle.cellform.proofs.Sizes.{value-size-most}
 use Rattle.counting.proofs.Follows.{on-got, on-bad}
@@ -190,20 +189,16 @@ module _ (z : Got (ℕ × (ℕ × ℕ))) (whole : Bool) (b : Bases) (bytes c s :
     pub valuing-less : k - (i + 1) < k - i
     valuing-less = omega arith
 
-    module _ (r : Record) (told : saidRecord r ≡ recordAt b (wrongIn bytes (Value i (getD c (column + 3) 0))) s p (length s)) where
-      record-as : saidRecord r ≡ recordAt b (badClustering bytes i (getD c (column + 3) 0)) s p (length s)
-      unfolding wrongIn
-      record-as = told
-
+    module _ (r : Record) (told : saidRecord r ≡ recordAt b (badClustering bytes i (getD c (column + 3) 0)) s p (length s)) where
       pub valuing-bad : (o : Bool) → o ≡ isOver whole s p → o ≡ false → (f : Fault) (x : ℕ) → r ≡ Refused f x → saidClustered (clustered-refused f x) ≡ z
       unfolding saidClustered saidRecord Measure
       valuing-bad o d g f x e =
-          ap (Measure bytes i h n (W ∷ Rest)) (sym (values-more b bytes s (length s) whole i W Rest p (sym d ∙ g) ∙ on-bad _ f x _ (sym record-as ∙ rw e refl))) ∙ from
+          ap (Measure bytes i h n (W ∷ Rest)) (sym (values-more b bytes s (length s) whole i W Rest p (sym d ∙ g) ∙ on-bad _ f x _ (sym told ∙ rw e refl))) ∙ from
 
       module _ (y : Item) (q : ℕ) (e : r ≡ Found y q) where
         got-as : recordAt b (badClustering bytes i (getD c (column + 3) 0)) s p (length s) ≡ got y q
         unfolding saidRecord
-        got-as = sym record-as ∙ rw e refl
+        got-as = sym told ∙ rw e refl
 
         good : Good b (badClustering bytes i (getD c (column + 3) 0)) s p (length s) y q
         good = record-gives b _ s p (length s) .given y q got-as
@@ -253,8 +248,8 @@ module _ (z : Got (ℕ × (ℕ × ℕ))) (whole : Bool) (b : Bases) (bytes c s :
               ap (Measure bytes i h n (W ∷ Rest)) (sym (values-more b bytes s (length s) whole i W Rest p (sym d ∙ g) ∙ on-bad _ f q _ e)) ∙ from ∙ t .is in
               never a
 
-      found : saidRecord (Found (itemOf s p) (p + 64)) ≡ recordAt b (wrongIn bytes (Value i (getD c (column + 3) 0))) s p (length s)
-      unfolding saidRecord wrongIn
+      found : saidRecord (Found (itemOf s p) (p + 64)) ≡ recordAt b (badClustering bytes i (getD c (column + 3) 0)) s p (length s)
+      unfolding saidRecord
       found = sym sure
 
       sizing-record : p + 64 ≤ length s

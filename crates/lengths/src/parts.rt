@@ -10,7 +10,6 @@ use cellform::cells;
 use cellform::values;
 use intake::ranges::Record;
 use intake::records;
-use intake::tests::Turn;
 use recorded::convert;
 use wire::refusal::Fault;
 use wire::times::Bases;
@@ -105,7 +104,7 @@ pub fn measure_clustering(
             };
         }
         let width = c[column + 3];
-        match records::read_record(s, p, b, bytes, Turn::Value { column: i, width }) {
+        match records::read_value(s, p, b, bytes, i, width) {
             Record::Found { item, next } => {
                 header += empty_bit(item.length, i);
                 size += values::value_len(width, item.length);
@@ -180,7 +179,7 @@ pub fn measure_cells(
             };
         }
         let width = c[base + 16 * (j as usize) + 3];
-        match records::read_record(s, p, b, bytes, Turn::Cell { column: j, width }) {
+        match records::read_cell(s, p, b, bytes, j, width) {
             Record::Found { item, next } => {
                 missing += columns_from(i, j);
                 let cell = convert::cell_of(item);

@@ -37,7 +37,7 @@ use Rattle.taken.proofs.Goods.{record-gives}
 use Rattle.intake.specs.Records.{saidRecord, wrongIn}
 use Rattle.intake.specs.declared.ranges.Record.{Record}
 use Rattle.intake.specs.declared.ranges.Record.the-variants.{Found, Refused}
-use Rattle.intake.specs.declared.tests.Turn.the-variants.{Static, Row, Marker}
+use Rattle.intake.specs.declared.tests.Turn.the-variants.{Static, Marker}
 use Rattle.counting.proofs.Follows.{on-got, on-bad}
 use Rattle.rowform.specs.Parts.{sizesForm, headerForm}
 use Rattle.lengths.specs.Lengths.{takenClustering, clusteringMeasured, cellsMeasured, saidClustered, saidCelled}
@@ -322,7 +322,7 @@ module _ (c : List ℕ) (k : Counts) (b : Bases) (s bytes : List ℕ) (opened : 
               (o .size)
               (body-sum b i back missing _ n _ (d .missing) (times-sum b row (timesOf i) bytes RW (d .cells) n g (d .size))))
 
-  module _ (at : ℕ) (q : Record) (told : saidRecord q ≡ recordAt b (wrongIn bytes Row) s at (length s)) where
+  module _ (at : ℕ) (q : Record) (told : saidRecord q ≡ recordAt b (badRow 3) s at (length s)) where
     abbrev Behind : Item → ℕ → Got Entry
     Behind i n = rowBehind (widthsOf c k) b bytes i s n (length s)
 
@@ -330,20 +330,16 @@ module _ (c : List ℕ) (k : Counts) (b : Bases) (s bytes : List ℕ) (opened : 
     unfolding takenRow rowBehind
     row-as = refl
 
-    row-told : saidRecord q ≡ recordAt b (badRow 3) s at (length s)
-    unfolding wrongIn
-    row-told = told
-
     pub row-bad : (f : Fault) (x : ℕ) → q ≡ Refused f x → saidPassed (passed-refused f x) ≡ entryMeasured b (widthsOf c k) bytes opened back (takenRow (widthsOf c k) b bytes s at (length s))
-    row-bad f x e = refused-is b (widthsOf c k) bytes opened back _ f x (row-as ∙ on-bad _ f x Behind (lost q _ row-told f x e))
+    row-bad f x e = refused-is b (widthsOf c k) bytes opened back _ f x (row-as ∙ on-bad _ f x Behind (lost q _ told f x e))
 
     module _ (y : Item) (m : ℕ) (e : q ≡ Found y m) where
       pub row-within : m ≤ length s
-      row-within = record-gives b _ s at (length s) .given y m (found q _ row-told y m e) .within
+      row-within = record-gives b _ s at (length s) .given y m (found q _ told y m e) .within
 
       pub row-to : (r : Passed) → saidPassed r ≡ entryMeasured b (widthsOf c k) bytes opened back (rowBehind (widthsOf c k) b bytes y s m (length s))
           → saidPassed r ≡ entryMeasured b (widthsOf c k) bytes opened back (takenRow (widthsOf c k) b bytes s at (length s))
-      row-to r h = h ∙ ap (entryMeasured b (widthsOf c k) bytes opened back) (sym (row-as ∙ on-got _ y m Behind (found q _ row-told y m e)))
+      row-to r h = h ∙ ap (entryMeasured b (widthsOf c k) bytes opened back) (sym (row-as ∙ on-got _ y m Behind (found q _ told y m e)))
 
   -- ---- a marker
   module _ (at : ℕ) (q : Record) (told : saidRecord q ≡ recordAt b (wrongIn bytes (Marker opened)) s at (length s)) where

@@ -220,7 +220,7 @@ fn measure_row(
     requires { ⌜ Table (length (now c)) k × (length (now s) ≤ 1073741824) × (length (now bytes) ≤ 1073741824) ⌝ }
     ensures { λ r. ⌜ saidPassed r ≡ entryMeasured b (widthsOf (now (c .entry)) k) (now (bytes .entry)) opened back (takenRow (widthsOf (now (c .entry)) k) b (now (bytes .entry)) (now (s .entry)) at (length (now (s .entry)))) ⌝ }
 {
-    match records::read_record(s, at, b, bytes, Turn::Row) {
+    match records::read_row(s, at, b) {
         Record::Found { item, next } => {
             measure_row_rest(c, k, b, s, bytes, opened, back, item, next)
         }

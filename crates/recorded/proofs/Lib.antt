@@ -1,3 +1,2 @@
--- What a record says, from its bytes or numbers (Places), a number read in halves (Halves).
+-- What a record says, from its bytes or numbers (Places).
 pub mod Places
-pub mod Halves

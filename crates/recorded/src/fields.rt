@@ -27,7 +27,7 @@ pub(crate) fn word_at(s: &[u8], at: usize) -> u64
     requires { ⌜ at + 4 ≤ length (now s) ⌝ }
     ensures { λ r. ⌜ r ≡ bigEndian 0 (now (s .entry)) at 4 ⌝ }
 {
-    fixed::big_endian(s, at, 4, 0)
+    fixed::four_in(s, at)
 }
 
 // The number of eight bytes at at.
@@ -35,16 +35,15 @@ pub(crate) fn long_at(s: &[u8], at: usize) -> u64
     requires { ⌜ at + 8 ≤ length (now s) ⌝ }
     ensures { λ r. ⌜ r ≡ bigEndian 0 (now (s .entry)) at 8 ⌝ }
 {
-    fixed::big_endian(s, at, 8, 0)
+    fixed::eight_in(s, at)
 }
 
-// The timestamp or mark at at, plus 2^63; in halves, which are one load each.
+// The timestamp or mark at at, plus 2^63.
 pub(crate) fn signed_at(s: &[u8], at: usize) -> u64
     requires { ⌜ at + 8 ≤ length (now s) ⌝ }
     ensures { λ r. ⌜ r ≡ signedAt (now (s .entry)) at ⌝ }
 {
-    let high = word_at(s, at);
-    times::biased_of(fixed::big_endian(s, at + 4, 4, high))
+    times::biased_of(fixed::eight_in(s, at))
 }
 
 // The record at at.

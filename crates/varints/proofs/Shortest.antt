@@ -2,12 +2,13 @@
 use mathlib.Core.Path.{_≡_, refl, sym, ap, _∙_}
 use mathlib.Core.Bool.{Bool, true, false}
 use Prim.Native.Nat.{ℕ, zero, suc, _+_, _-_, _*_, _/_, _%_, _^_, _≤_, _<_}
-use native.Mathlib.Nat.{pow-suc, div-lt-iff-lt-mul, one-le-pow, lt-of-lt-of-le, pow-le-pow-right}
+use native.Mathlib.Nat.{pow-suc, div-lt-iff-lt-mul, one-le-pow, le-trans, lt-of-lt-of-le, pow-le-pow-right}
 use native.Mathlib.Numerals.{add-one}
 use native.Mathlib.Decide.{decLt}
 use native.Mathlib.Omega.{arith}
 use borrow.Author.Tests.{ltb-true, ltb-false, lt-ltb, le-ltb}
 use lib.Dec.{lit<, ltb, leb, eqb, T, eqb→eq, leb→le}
+use lib.Count.{leadingZeros, leading-top}
 use lib.ListN.{length}
 use Rattle.wire.specs.Choose.{pick}
 use Rattle.varints.specs.Varints.{extra, form, shortest}
@@ -70,6 +71,48 @@ extra-fewest x n l h = go (decLt n 8)
     go : Dec (n < 8) → extra 8 x ≤ n
     go (yes p) = extra-least 8 x n (rw (room n p) h)
     go (no q) = omega (arith, extra-le 8 x)
+
+-- ---- the same from the zeros that lead the number
+-- its highest one is at j: j + 1 bits fit, and fewer bytes hold less than j bits
+zeros-hold : (j : ℕ) → j < 64 → 2 ^ suc j ≤ 2 ^ (7 - (8 - 9 * (63 - j) / 64)) * 256 ^ (8 - 9 * (63 - j) / 64)
+zeros-hold j h = leb→le _ _ (below-at 64 (λ j. leb (2 ^ suc j) (2 ^ (7 - (8 - 9 * (63 - j) / 64)) * 256 ^ (8 - 9 * (63 - j) / 64))) tt j h)
+
+zeros-pass : (j : ℕ) → j < 64 → 128 ^ (8 - 9 * (63 - j) / 64) ≤ 2 ^ j
+zeros-pass j h = leb→le _ _ (below-at 64 (λ j. leb (128 ^ (8 - 9 * (63 - j) / 64)) (2 ^ j)) tt j h)
+
+zeros-few : (j : ℕ) → j < 64 → 9 * (63 - j) / 64 ≤ 8
+zeros-few j h = leb→le _ _ (below-at 64 (λ j. leb (9 * (63 - j) / 64) 8) tt j h)
+
+no-fewer : (x n : ℕ) → n ≤ 8 → 128 ^ n ≤ x → n ≤ extra 8 x
+no-fewer x n l h = go (decLt (extra 8 x) n)
+  where
+    go : Dec (extra 8 x < n) → n ≤ extra 8 x
+    go (yes p) =
+        let u : x < 128 ^ suc (extra 8 x) = extra-lt 8 x (omega arith) in
+        let v : 128 ^ suc (extra 8 x) ≤ 128 ^ n = pow-le-pow-right (lit< tt) p in
+        absurd (omega arith)
+    go (no q) = omega arith
+
+module _ (x : ℕ) (l : 128 ≤ x) (h : x < 2 ^ 64) where
+  abbrev Top : ℕ
+  Top = leading-top 64 x (omega arith) h .0
+
+  zeros-top : leadingZeros 64 x ≡ 63 - Top
+  zeros-top = omega (arith, leading-top 64 x (omega arith) h .1)
+
+  top-below : Top < 64
+  top-below = omega (arith, leading-top 64 x (omega arith) h .1)
+
+  pub zeros-most : 9 * leadingZeros 64 x / 64 ≤ 8
+  zeros-most = rw zeros-top (zeros-few Top top-below)
+
+  pub extra-zeros : 8 - 9 * leadingZeros 64 x / 64 ≡ extra 8 x
+  extra-zeros =
+      let t = leading-top 64 x (omega arith) h in
+      let n : ℕ = 8 - 9 * (63 - Top) / 64 in
+      let a : extra 8 x ≤ n = extra-fewest x n (omega arith) (lt-of-lt-of-le (t .3) (zeros-hold Top top-below)) in
+      let b : n ≤ extra 8 x = no-fewer x n (omega arith) (le-trans (zeros-pass Top top-below) (t .2)) in
+      rw zeros-top (omega arith)
 
 pub marker-shift : (n : ℕ) → n < 9 → 256 / 2 ^ n ≡ 2 ^ (8 - n)
 marker-shift n h = eqb→eq _ _ (below-at 9 (λ n. eqb (256 / 2 ^ n) (2 ^ (8 - n))) tt n h)

@@ -55,20 +55,15 @@ pub fn read(s: &[u8], at: usize, end: usize) -> Num
     }
 }
 
-// How many bytes follow the first in the shortest varint of x.
+// How many bytes follow the first in the shortest varint of x: one for each seven bits behind the first seven, at most 8.
 fn extra_bytes(x: u64) -> usize
     ensures { λ r. ⌜ r ≡ extra 8 x ⌝ }
 {
-    let mut y = x;
-    let mut n: usize = 0;
-    while n < 8 {
-        if y < 128 {
-            return n;
-        }
-        y = y / 128;
-        n += 1;
+    if x < 128 {
+        return 0;
     }
-    n
+    let zeros = u64::leading_zeros(x) as usize;
+    8 - 9 * zeros / 64
 }
 
 // The length of the shortest varint of x.

@@ -7,7 +7,6 @@ use Rattle.intake.proofs.fields.is_stray_bytes.Tie as tie
 use Rattle.intake.proofs.fields.is_stray_bytes.Reads as reads
 use Rattle.intake.proofs.fields.is_stray_bytes.Lts as lts
 use Rattle.intake.proofs.fields.wide.Reads as wide-reads
-use Rattle.fixed.proofs.big_endian.Reads as big-endian-reads
 
 -- src/fields.rt:21:19
 add-wide : tie.Need-add-wide
@@ -27,12 +26,12 @@ unfolding strayBytes
 returns c = search (numbers, told, cases) depth 12
 
 -- src/fields.rt:24:31
-add-big-endian : tie.Need-add-big-endian
-add-big-endian c = search needs
+add-four-in : tie.Need-add-four-in
+add-four-in c = search needs
 
 -- src/fields.rt:24:9
-big-endian-requires : tie.Need-big-endian-requires
-big-endian-requires c κs = search needs
+four-in-requires : tie.Need-four-in-requires
+four-in-requires c κs = search needs
 
 -- src/fields.rt:17:1
 returns-2 : tie.Need-returns-2
@@ -47,6 +46,6 @@ is-stray-bytes-spec =
     shared-slice-read-wide
     wide-requires
     returns
-    add-big-endian
-    big-endian-requires
+    add-four-in
+    four-in-requires
     returns-2)

@@ -50,8 +50,8 @@ add-width-2 c = search (celling, needs) depth 12
 shared-slice-read-width : tie.Need-shared-slice-read-width Inv-loop μ-loop
 shared-slice-read-width c = search (celling, needs) depth 12
 
-read-record-requires : tie.Need-read-record-requires Inv-loop μ-loop
-read-record-requires c κs = search (celling, needs) depth 12
+read-cell-requires : tie.Need-read-cell-requires Inv-loop μ-loop
+read-cell-requires c κs = search (celling, needs) depth 12
 
 enum-known-item : tie.Need-enum-known-item Inv-loop μ-loop
 enum-known-item c = search (celling, needs) depth 12
@@ -104,7 +104,7 @@ measure-cells-spec =
     add-width
     add-width-2
     shared-slice-read-width
-    read-record-requires
+    read-cell-requires
     enum-known-item
     columns-from-requires-3
     add-missing

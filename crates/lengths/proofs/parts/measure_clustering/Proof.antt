@@ -28,8 +28,8 @@ add-width c = search (valuing, needs) depth 12
 shared-slice-read-width : tie.Need-shared-slice-read-width Inv-loop μ-loop
 shared-slice-read-width c = search (valuing, needs) depth 12
 
-read-record-requires : tie.Need-read-record-requires Inv-loop μ-loop
-read-record-requires c κs = search (valuing, needs) depth 12
+read-value-requires : tie.Need-read-value-requires Inv-loop μ-loop
+read-value-requires c κs = search (valuing, needs) depth 12
 
 enum-known-item : tie.Need-enum-known-item Inv-loop μ-loop
 enum-known-item c = search (valuing, needs) depth 12
@@ -78,7 +78,7 @@ measure-clustering-spec =
     returns
     add-width
     shared-slice-read-width
-    read-record-requires
+    read-value-requires
     enum-known-item
     empty-bit-requires
     add-header

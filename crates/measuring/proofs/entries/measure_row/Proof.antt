@@ -4,8 +4,8 @@ use borrow.Author.Needs.{needs}
 use Rattle.measuring.proofs.entries.measure_row.Statement.{statement}
 use Rattle.measuring.proofs.entries.measure_row.Tie as tie
 
-read-record-requires : tie.Need-read-record-requires
-read-record-requires c κs = search needs
+read-row-requires : tie.Need-read-row-requires
+read-row-requires c κs = search needs
 
 enum-known-item : tie.Need-enum-known-item
 enum-known-item c = search needs
@@ -26,7 +26,7 @@ pub measure-row-spec : {M : Type 1} → statement M
 measure-row-spec =
     tie.close
     (tie.spec
-    read-record-requires
+    read-row-requires
     enum-known-item
     measure-row-rest-requires
     enum-known-fault
