@@ -17,7 +17,7 @@ use Rattle.typetable.specs.Table.{table, lineIn, nth, isLine}
 use Rattle.typetable.specs.Table.{lineOf as typeLine}
 use Rattle.typenames.specs.Names.{blank, alphanumeric, ofName, ofParameters, past, upTo, named, inside}
 use Rattle.types.specs.Strings.{opened, tail, typed, behind, plain, lineWith, stringWith, held, typeOf, stringAt, typeAt}
-use Rattle.types.specs.Strings.{counted as parametersCounted}
+use Rattle.typenames.specs.Names.{counted as parametersCounted}
 use Rattle.schema.specs.Records.{mostOf, roleAt, lineAt, markAt, widthAt, nameLenAt, zerosAt, isLineOf, isNameOf, isKindOf, given, countOf, isPassed, isFirst, inTurn, withOne, recordAt, recordsAt, schemaAt, schemaOf}
 use Rattle.schema.specs.Records.{nameAt as recordNameAt}
 use Rattle.entries.specs.Contents.{offsetOf, withEntry, used, entryTypeAt, offsetAt, pairsAt, present, nearer, endOf}
