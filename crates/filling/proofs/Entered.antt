@@ -22,7 +22,7 @@ use Rattle.taken.specs.Fields.{itemOf}
 use Rattle.taken.specs.Tests.{unlike, badRow, badStatic, badMarker}
 use Rattle.taken.specs.Entries.{takenStatic, takenRow, takenMarker, takenEntry}
 use Rattle.taken.proofs.Goods.{not-first, not-second, record-gives}
-use Rattle.listing.proofs.PutCells.{got-value}
+use Rattle.wire.proofs.Gives.{got-value}
 use Rattle.filling.specs.Parts.{staticAgain, rowAgain, markerAgain, entryAgain, entryWritten, Fitting, PutsTo, EntryThere, PutsEntry}
 use Rattle.filling.specs.declared.entries.Behind.{Behind}
 use Rattle.filling.proofs.PutRows.{entry-of}

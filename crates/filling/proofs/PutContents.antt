@@ -27,7 +27,7 @@ use Rattle.taken.specs.Entries.{deletionOf, partitionOf, takenEntries, baseless
 use Rattle.taken.proofs.Goods.{record-gives}
 use Rattle.taken.proofs.Lying.{key-lies}
 use Rattle.taken.proofs.Unfolds.{taken-unfold, partition-moves}
-use Rattle.listing.proofs.PutCells.{got-value, got-place}
+use Rattle.wire.proofs.Gives.{got-value, got-place}
 use Rattle.listing.proofs.Writing.{Writing, writing-none, writing-same, writing-end, writing-room, writing-more}
 use Rattle.filling.specs.Parts.{partitionAgain, entriesWritten, partitionWritten, contentsWritten, Fitting, PutsTo, KeyThere}
 use Rattle.filling.specs.declared.entries.Behind.{Behind}

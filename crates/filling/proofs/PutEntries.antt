@@ -25,7 +25,7 @@ use Rattle.taken.specs.Tests.{badEnd}
 use Rattle.taken.specs.Entries.{takenEntry, takenEnd, takenEntries}
 use Rattle.taken.proofs.Goods.{record-gives}
 use Rattle.taken.proofs.Unfolds.{entries-unfold, entry-moves, kind-gives}
-use Rattle.listing.proofs.PutCells.{got-value, got-place}
+use Rattle.wire.proofs.Gives.{got-value, got-place}
 use Rattle.listing.proofs.Writing.{Writing, writing-none, writing-same, writing-end, writing-room, writing-more}
 use Rattle.filling.specs.Parts.{entryAgain, entryWritten, entriesWritten, Fitting, PutsTo, EntryThere, PutsEntry}
 use Rattle.filling.specs.declared.whole.Passed.{Passed}

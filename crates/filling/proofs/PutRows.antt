@@ -34,7 +34,7 @@ use Rattle.rowform.proofs.Laws.{content-form, sized-form, header-form, marker-f
 use Rattle.taken.specs.Fields.{itemOf, hasTime, hasExpiry, hasLocal}
 use Rattle.taken.specs.Entries.{deletionOf, timesOf, deletionsOf, rowOf, markerOf, takenValues, takenPrefix, takenCells}
 use Rattle.taken.proofs.Unfolds.{values-move}
-use Rattle.listing.proofs.PutCells.{never, got-value, got-place}
+use Rattle.wire.proofs.Gives.{never, got-value, got-place}
 use Rattle.lengths.specs.Lengths.{takenClustering, clusteringMeasured, cellsMeasured, Known, saidClustered, saidCelled}
 use Rattle.lengths.specs.declared.parts.Clustered.{Clustered}
 use Rattle.lengths.specs.declared.parts.Clustered.the-variants.{To as clustered-to, Refused as clustered-refused}

@@ -5,6 +5,7 @@ use mathlib.Core.List.{List, []}
 use Prim.Native.Nat.{ℕ, _+_, _*_, _^_, _≤_, _<_}
 use native.Mathlib.Omega.{arith}
 use lib.ListN.{length, getD}
+use Rattle.wire.proofs.Gives.{got-value}
 use Rattle.wire.specs.Got.{Got, got}
 use Rattle.wire.specs.declared.times.Bases.{Bases}
 use Rattle.wire.proofs.RoundTrip.{Reads}
@@ -70,6 +71,3 @@ module _ (b : Bases) (t : Widths) where
       let h = form-back few xs i short in
       let same : h .value ≡ qs = got-value (sym (h .is) ∙ e) in
       ap (formOf b t) (subst (λ q. showContents (formOf b t xs) q ≡ xs) same (h .holds))
-    where
-      got-value : {A : Type 0} {x y : A} {m k : ℕ} → got x m ≡ got y k → x ≡ y
-      got-value e = cc

@@ -30,7 +30,7 @@ use Rattle.intake.specs.declared.ranges.Record.the-variants.{Found, Refused}
 use Rattle.cellform.specs.Sizes.{cellSize}
 use Rattle.cellform.proofs.Sizes.{cell-size-most}
 use Rattle.counting.proofs.Follows.{on-got, on-bad}
-use Rattle.listing.proofs.PutCells.{never}
+use Rattle.wire.proofs.Gives.{never}
 use Rattle.lengths.specs.Lengths.{cellColumn, columnsFrom, cellsMeasured, Known, saidCelled}
 use Rattle.lengths.specs.declared.parts.Celled.the-variants.{To as celled-to, Refused as celled-refused}
 use Rattle.lengths.proofs.Skips.{cell-here, cell-other, nones, cells-some, cells-skip}

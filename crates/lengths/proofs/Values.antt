@@ -28,7 +28,7 @@ use Rattle.intake.specs.declared.ranges.Record.the-variants.{Found, Refused}
 use Rattle.cellform.specs.Sizes.{valueSize}
 use Rattle.cellform.proofs.Sizes.{value-size-most}
 use Rattle.counting.proofs.Follows.{on-got, on-bad}
-use Rattle.listing.proofs.PutCells.{never}
+use Rattle.wire.proofs.Gives.{never}
 use Rattle.lengths.specs.Lengths.{takenClustering, isOver, emptyBit, clusteringMeasured, Known, saidClustered}
 use Rattle.lengths.specs.declared.parts.Clustered.the-variants.{To as clustered-to, Refused as clustered-refused}
 use Rattle.lengths.proofs.Sizes.{value-shown, value-short, value-length}

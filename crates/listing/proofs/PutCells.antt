@@ -12,17 +12,14 @@ use lib.Dec.{ltb}
 use lib.ListN.{length, getD}
 use lib.Pow.{shr-shr, shr-le, pow-pos}
 use Rattle.wire.specs.Choose.{pick}
-use Rattle.wire.specs.Got.{Got, got, bad, on}
+use Rattle.wire.specs.Got.{Got, got, bad, on, Took}
 use Rattle.wire.specs.Store.{Room, Puts}
-use Rattle.wire.specs.declared.refusal.Fault.{Fault}
 use Rattle.wire.specs.declared.refusal.Fault.the-variants.{LeftOver}
 use Rattle.wire.specs.declared.times.Bases.{Bases}
-use Rattle.cell.specs.Cells.{cellAt, saidFound}
+use Rattle.wire.proofs.Gives.{never, got-value, got-place}
+use Rattle.cell.specs.Cells.{cellAt}
 use Rattle.cell.specs.declared.cells.Times.{Times}
 use Rattle.cell.specs.declared.cells.Cell.{Cell}
-use Rattle.cell.specs.declared.cells.Found.{Found}
-use Rattle.cell.specs.declared.cells.Found.the-variants.{Read, Refused}
-use Rattle.cell.proofs.Said.{found-got}
 use Rattle.clustering.specs.Prefixes.{widthsAt}
 use Rattle.row.specs.Bodies.{columns}
 use Rattle.items.specs.Items.{cellItem}
@@ -33,15 +30,6 @@ use Rattle.counting.specs.Counted.{wholeCellsAt}
 use Rattle.listing.specs.Records.{recordOf, recordsOf}
 use Rattle.listing.specs.Parts.{cellsOf, Fitting}
 use Rattle.listing.proofs.Writing.{Writing, writing-none, writing-same, writing-end, writing-room, writing-more}
-
-pub got-value : {A : Type 0} {a b : A} {m n : ℕ} → got a m ≡ got b n → a ≡ b
-got-value e = cc
-
-pub got-place : {A : Type 0} {a b : A} {m n : ℕ} → got a m ≡ got b n → m ≡ n
-got-place e = cc
-
-pub never : {A C : Type 0} {f : Fault} {p n : ℕ} {a : A} → bad f p ≡ got a n → C
-never e = let z : _≡_ {A = ℕ} 0 1 = cc in absurd (omega arith)
 
 module _ (b : Bases) (row : Times) (c s : List ℕ) (stop : ℕ) where
   abbrev Cells : ℕ → ℕ → ℕ → ℕ → Got (List (Option Cell))
@@ -219,13 +207,16 @@ module _ (R : List ℕ) (b : Bases) (row : Times) (c s : List ℕ) (stop : ℕ) 
     pub putting-less : left / 2 ^ trailingZeros 64 left / 2 < left
     putting-less = omega (arith, shr-le left (trailingZeros 64 left))
 
-    module _ (r : Found) (e : saidFound r ≡ cellAt b row (getD c (column + 16 * trailingZeros 64 left + 3) 0) s p stop) where
-      module _ (v : Cell) (q : ℕ) (f : r ≡ Read v q) (it : Item) (g : it ≡ cellItem (i + trailingZeros 64 left) v) where
+    pub putting-took : Took (cellAt b row (getD c (column + 16 * trailingZeros 64 left + 3) 0) s p stop)
+    putting-took = record { value = next .cell; place = next .next; is = next .here }
+
+    module _ (v : Cell) (q : ℕ) (e : got v q ≡ cellAt b row (getD c (column + 16 * trailingZeros 64 left + 3) 0) s p stop) where
+      module _ (it : Item) (g : it ≡ cellItem (i + trailingZeros 64 left) v) where
         same-cell : next .cell ≡ v
-        same-cell = got-value (sym (next .here) ∙ found-got r _ v q e f)
+        same-cell = got-value (sym (next .here) ∙ sym e)
 
         same-next : next .next ≡ q
-        same-next = got-place (sym (next .here) ∙ found-got r _ v q e f)
+        same-next = got-place (sym (next .here) ∙ sym e)
 
         records : recordsOf (cellsListed i (h .cells)) ≡ recordOf it ++ recordsOf (cellsListed (i + trailingZeros 64 left + 1) (next .cells))
         unfolding recordsOf
@@ -247,8 +238,4 @@ module _ (R : List ℕ) (b : Bases) (row : Times) (c s : List ℕ) (stop : ℕ) 
           writing = writing-more R d₀ d to out _ (h .writing) _ _ records d′ n w;
         }
 
-      pub putting-bad : (f : Fault) (x : ℕ) → r ≡ Refused f x → Puts d₀ d to R out
-      unfolding saidFound
-      putting-bad f x g = never ((rw g at e) ∙ next .here)
-
-pub ruleset putting = (putting-none, putting-same, putting-end, putting-skips, putting-index, putting-cast, putting-product, putting-sum, putting-sum-next, putting-column, putting-width, putting-next, putting-less, putting-room, putting-more, putting-bad)
+pub ruleset putting = (putting-none, putting-same, putting-end, putting-skips, putting-index, putting-cast, putting-product, putting-sum, putting-sum-next, putting-column, putting-width, putting-next, putting-less, putting-took, putting-room, putting-more)

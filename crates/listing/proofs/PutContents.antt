@@ -27,7 +27,7 @@ use Rattle.counting.proofs.Follows.{on-got, on-bad}
 use Rattle.listing.specs.Records.{recordOf, recordsOf}
 use Rattle.listing.specs.Parts.{entriesOf, contentsItems, Fitting, PutsEntries}
 use Rattle.listing.specs.declared.fills.Behind.{Behind}
-use Rattle.listing.proofs.PutCells.{never, got-value, got-place}
+use Rattle.wire.proofs.Gives.{never, got-value, got-place}
 use Rattle.listing.proofs.PutRows.{records-both}
 use Rattle.listing.proofs.PutEntries.{entries-of}
 use Rattle.listing.proofs.Writing.{Writing, writing-none, writing-same, writing-end, writing-room, writing-more}

@@ -33,7 +33,7 @@ use Rattle.listing.specs.Records.{recordOf, recordsOf}
 use Rattle.listing.specs.Parts.{entryOf, entriesOf, Fitting, PutsEntry, PutsMarker, PutsEntries}
 use Rattle.listing.specs.declared.fills.Behind.{Behind}
 use Rattle.listing.specs.declared.fills.Open.{Open}
-use Rattle.listing.proofs.PutCells.{never, got-value, got-place}
+use Rattle.wire.proofs.Gives.{never, got-value, got-place}
 use Rattle.listing.proofs.PutRows.{records-both, entry-of}
 use Rattle.listing.proofs.Writing.{Writing, writing-none, writing-same, writing-end, writing-room, writing-more}
 

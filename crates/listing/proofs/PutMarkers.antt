@@ -27,7 +27,7 @@ use Rattle.counting.proofs.Markers.{ok, entry-as, entry-is}
 use Rattle.listing.specs.Records.{recordOf, recordsOf}
 use Rattle.listing.specs.Parts.{valuesOf, entryOf, boundOf, Fitting, FittingBound, PutsMarker}
 use Rattle.listing.specs.declared.fills.Open.{Open}
-use Rattle.listing.proofs.PutCells.{never, got-value, got-place}
+use Rattle.wire.proofs.Gives.{never, got-value, got-place}
 use Rattle.listing.proofs.PutValues.{values-of}
 use Rattle.listing.proofs.PutRows.{head-room, rest-room, all-puts, entry-of}
 

@@ -5,19 +5,21 @@ use mathlib.Core.Option.{Option}
 use Prim.Native.Nat.{ℕ, _+_, _*_, _≤_}
 use borrow.Author.Tests.{eq-eqb, ne-eqb}
 use lib.ListN.{length}
-use Rattle.wire.specs.Got.{Got, got, on}
+use Rattle.wire.specs.Got.{Got, got, on, Took}
 use Rattle.wire.specs.Store.{Room, Puts}
-use Rattle.wire.specs.declared.refusal.Fault.{Fault}
 use Rattle.wire.specs.declared.times.Bases.{Bases}
 use Rattle.wire.proofs.Choose.{pick-yes, pick-no}
+use Rattle.wire.proofs.Gives.{got-value, got-place}
+use Rattle.wire.proofs.Took.{took-first}
 use Rattle.wire.proofs.Puts.{room-left, room-right, puts-then}
 use Rattle.cell.specs.declared.cells.Cell.{Cell}
 use Rattle.clustering.specs.Prefixes.{valuesAt, widthsAt}
+use Rattle.clustering.proofs.Loops.{widths-count}
 use Rattle.row.specs.Bodies.{columns}
 use Rattle.row.specs.Rows.{rowAt, saidFound}
 use Rattle.row.specs.declared.rows.Row.{Row}
 use Rattle.row.specs.declared.rows.Found.{Found}
-use Rattle.row.specs.declared.rows.Found.the-variants.{Read, Refused}
+use Rattle.row.specs.declared.rows.Found.the-variants.{Read}
 use Rattle.schema.specs.declared.records.Counts.{Counts}
 use Rattle.items.specs.Items.{rowItem}
 use Rattle.items.specs.declared.Item.{Item}
@@ -25,12 +27,11 @@ use Rattle.contents.specs.Contents.{widthsOf, Entry, staticEntry, rowEntry, bod
 use Rattle.contents.proofs.Follows.{Parted, parted}
 use Rattle.contents.proofs.Gives.{body-cells-give, row-placed}
 use Rattle.counting.specs.Counted.{wholeCellsAt}
-use Rattle.counting.proofs.Follows.{on-bad}
-use Rattle.counting.proofs.Rows.{row-as, ok, entry-as, present-statics, present-regulars}
+use Rattle.counting.proofs.Rows.{ok, entry-as, present-statics, present-regulars}
 use Rattle.listing.specs.Records.{recordOf, recordsOf}
 use Rattle.listing.specs.Parts.{cellsOf, valuesOf, entryOf, staticsAt, regularsAt, clusteringOf, Fitting, FittingStatic, FittingRow, PutsEntry}
 use Rattle.listing.specs.declared.fills.Behind.{Behind}
-use Rattle.listing.proofs.PutCells.{never, got-value, got-place, cells-of}
+use Rattle.listing.proofs.PutCells.{cells-of}
 use Rattle.listing.proofs.PutValues.{values-of}
 
 pub records-both : (l m : List Item) → recordsOf (l ++ m) ≡ recordsOf l ++ recordsOf m
@@ -118,12 +119,28 @@ pub entry-of : (x : Got Entry) (e : Entry) (n : ℕ) → x ≡ got e n → entry
 unfolding entryOf
 entry-of x e n d = rw d refl
 
-module _ (c s : List ℕ) (k : Counts) (b : Bases) (first at : ℕ) (q : Found) (told : saidFound q ≡ rowAt b (widthsAt c 16 (k .clustering)) (k .statics) (k .regulars) first s at (length s))
-    (d : List ℕ) (to : ℕ) (fit : Fitting (rowEntryAt (widthsOf c k) b first s at (length s)) (entryOf (rowEntryAt (widthsOf c k) b first s at (length s))) d to) where
+module _ (c s : List ℕ) (k : Counts) (b : Bases) (first at : ℕ) (d : List ℕ) (to : ℕ)
+    (fit : Fitting (rowEntryAt (widthsOf c k) b first s at (length s)) (entryOf (rowEntryAt (widthsOf c k) b first s at (length s))) d to) where
   abbrev Entry₀ : Got Entry
   Entry₀ = rowEntryAt (widthsOf c k) b first s at (length s)
 
-  module _ (r : Row) (m : ℕ) (f : q ≡ Read r m) where
+  pub row-took : Took (rowAt b (widthsAt c 16 (k .clustering)) (k .statics) (k .regulars) first s at (length s))
+  unfolding rowEntryAt widthsOf
+  row-took =
+      let t : Took Entry₀ = record { value = fit .value; place = fit .place; is = fit .is } in
+      rw (widths-count c (16 + 16 * k .clustering) (k .statics), widths-count c (16 + 16 * (k .clustering + k .statics)) (k .regulars)) at (took-first _ _ t)
+
+  module _ (r : Row) (m : ℕ) (g₀ : got r m ≡ rowAt b (widthsAt c 16 (k .clustering)) (k .statics) (k .regulars) first s at (length s)) where
+    abbrev q : Found
+    q = Read r m
+
+    told : saidFound q ≡ rowAt b (widthsAt c 16 (k .clustering)) (k .statics) (k .regulars) first s at (length s)
+    unfolding saidFound
+    told = g₀
+
+    f : q ≡ Read r m
+    f = refl
+
     within : m ≤ r .body .stop
     within = row-placed b (widthsAt c 16 (k .clustering)) (k .statics) (k .regulars) s at (length s) r m (ok c s k b first at q told r m f) .within
 
@@ -202,8 +219,4 @@ module _ (c s : List ℕ) (k : Counts) (b : Bases) (first at : ℕ) (q : Found) 
       pub row-plain-puts : (d′ : List ℕ) (o : ℕ) → Puts d d′ to (recordsOf (rowItem 3 r ∷ (valuesOf (clusteringOf c k s r) ++ cellsOf (regularsAt c k b s r m)))) o → PutsEntry Entry₀ d d′ to (record { next = r .body .stop; out = o })
       row-plain-puts d′ o w = record { next = plain-ends .stops; puts = rw (plain-ends .items) w }
 
-  pub row-never : (z : Fault) (x : ℕ) → q ≡ Refused z x → (r : Behind) → PutsEntry Entry₀ d d to r
-  unfolding rowEntryAt saidFound
-  row-never z x e r = never (sym (on-bad _ z x _ (sym (row-as c s k b first at q told) ∙ rw e refl)) ∙ fit .is)
-
-pub ruleset rows = (row-static-fits, row-static-puts, row-plain-fits, row-plain-puts, row-never)
+pub ruleset rows = (row-took, row-static-fits, row-static-puts, row-plain-fits, row-plain-puts)

@@ -4,14 +4,10 @@ use mathlib.Core.List.{List, [], _∷_, _++_}
 use Prim.Native.Nat.{ℕ, suc, _+_, _-_, _*_, _/_, _^_, _≤_, _<_}
 use native.Mathlib.Omega.{arith}
 use lib.ListN.{length, getD}
-use Rattle.wire.specs.Got.{Got, got, on}
+use Rattle.wire.specs.Got.{Got, got, on, Took}
 use Rattle.wire.specs.Store.{Room, Puts}
-use Rattle.wire.specs.declared.refusal.Fault.{Fault}
-use Rattle.cell.specs.Fields.{saidPart}
+use Rattle.wire.proofs.Gives.{got-value, got-place}
 use Rattle.cell.specs.declared.fields.Span.{Span}
-use Rattle.cell.specs.declared.fields.Part.{Part}
-use Rattle.cell.specs.declared.fields.Part.the-variants.{Lies, Refused}
-use Rattle.cell.proofs.Said.{part-got}
 use Rattle.clustering.specs.Prefixes.{clusteringAt, valuesAt, widthsAt}
 use Rattle.items.specs.Items.{valueItem}
 use Rattle.items.specs.declared.Item.{Item}
@@ -20,7 +16,6 @@ use Rattle.contents.proofs.Follows.{Parted, parted}
 use Rattle.listing.specs.Records.{recordOf, recordsOf}
 use Rattle.listing.specs.Parts.{valuesOf, Fitting}
 use Rattle.listing.proofs.Writing.{Writing, writing-none, writing-same, writing-end, writing-room, writing-more}
-use Rattle.listing.proofs.PutCells.{never, got-value, got-place}
 
 pub values-of : (x : Got (List Span)) (vs : List Span) (n : ℕ) → x ≡ got vs n → valuesOf x ≡ valuesListed 0 vs
 unfolding valuesOf
@@ -95,13 +90,16 @@ module _ (R : List ℕ) (c s : List ℕ) (k : ℕ) (d₀ d : List ℕ) (to colum
     behind : Parted (valuesAt (widthsAt c (column + 16) (k - (i + 1))) (h / 4) s (next .place) (length s)) (λ vs r. got (next .value ∷ vs) r) (v .values) (v .place)
     behind = parted _ _ (v .values) (v .place) (next .rest)
 
-    module _ (r : Part) (e : saidPart r ≡ clusteringAt (getD c (column + 3) 0) h s p (length s)) where
-      module _ (x : Span) (q : ℕ) (f : r ≡ Lies x q) (it : Item) (g : it ≡ valueItem i x) where
+    pub valuing-took : Took (clusteringAt (getD c (column + 3) 0) h s p (length s))
+    valuing-took = record { value = next .value; place = next .place; is = next .is }
+
+    module _ (x : Span) (q : ℕ) (e : got x q ≡ clusteringAt (getD c (column + 3) 0) h s p (length s)) where
+      module _ (it : Item) (g : it ≡ valueItem i x) where
         same-value : next .value ≡ x
-        same-value = got-value (sym (next .is) ∙ part-got r _ x q e f)
+        same-value = got-value (sym (next .is) ∙ sym e)
 
         same-next : next .place ≡ q
-        same-next = got-place (sym (next .is) ∙ part-got r _ x q e f)
+        same-next = got-place (sym (next .is) ∙ sym e)
 
         records : recordsOf (valuesListed i (v .values)) ≡ recordOf it ++ recordsOf (valuesListed (i + 1) (behind .value))
         unfolding recordsOf
@@ -123,8 +121,4 @@ module _ (R : List ℕ) (c s : List ℕ) (k : ℕ) (d₀ d : List ℕ) (to colum
           writing = writing-more R d₀ d to out _ (v .writing) _ _ records d′ n w;
         }
 
-      pub valuing-bad : (f : Fault) (x : ℕ) → r ≡ Refused f x → Puts d₀ d to R out
-      unfolding saidPart
-      valuing-bad f x g = never ((rw g at e) ∙ next .is)
-
-pub ruleset valuing = (valuing-none, valuing-same, valuing-end, valuing-index, valuing-sum, valuing-width, valuing-column, valuing-room, valuing-more, valuing-bad)
+pub ruleset valuing = (valuing-none, valuing-same, valuing-end, valuing-index, valuing-sum, valuing-width, valuing-column, valuing-took, valuing-room, valuing-more)

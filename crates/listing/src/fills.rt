@@ -1,4 +1,5 @@
 // The records of Data's items, stored while Data is read again: it was counted, so that nothing in it is refused, and its records fit.
+// Rows, values and cells are read without a test; markers and partitions, which are few, as they were before.
 ghost use mathlib.Core.Path.{_≡_};
 ghost use Prim.Native.Nat.{_+_, _*_, _≤_};
 ghost use mathlib.Core.List.{_∷_, _++_};
@@ -14,17 +15,16 @@ ghost use Rattle.counting.specs.Counted.{wholeCellsAt};
 ghost use Rattle.listing.specs.Records.{recordsOf};
 ghost use Rattle.listing.specs.Parts.{cellsOf, valuesOf, entryOf, staticsAt, regularsAt, clusteringOf, entriesOf, contentsItems, boundOf, Fitting, FittingStatic, FittingRow, FittingBound, PutsEntry, PutsMarker, PutsEntries};
 use crate::records;
-use cell::cells;
 use cell::cells::Times;
 use cell::fields;
 use cell::fields::Deletion;
-use cell::fields::Part;
-use clustering::prefixes;
+use cellagain::cells;
 use marker::markers;
 use marker::markers::Marker;
 use partition::partitions;
-use row::rows;
 use row::rows::Row;
+use rowagain::prefixes;
+use rowagain::rows;
 use schema::records::Counts;
 use wire::number::Num;
 use wire::times::Bases;
@@ -69,17 +69,14 @@ pub(crate) fn put_cells(
         column += 16 * (skipped as usize);
         i += skipped as u64;
         let width = c[column + 3];
-        match cells::read_cell(s, p, stop, width, b, times) {
-            cells::Found::Read { cell, next } => {
-                let item = items::cell_item(i, cell);
-                p = next;
-                column += 16;
-                i += 1;
-                left = (left >> skipped) / 2;
-                out = records::put_record(d, out, item);
-            }
-            cells::Found::Refused { fault: _, place: _ } => return out,
-        }
+        let seen = cells::known_cell(s, p, stop, width, b, times);
+        let cell = seen.cell;
+        let item = items::cell_item(i, cell);
+        p = seen.next;
+        column += 16;
+        i += 1;
+        left = (left >> skipped) / 2;
+        out = records::put_record(d, out, item);
     }
     out
 }
@@ -104,17 +101,14 @@ pub(crate) fn put_values(
     let mut out = to;
     while i < k {
         let width = c[column + 3];
-        match prefixes::read_clustering(s, p, s.len(), width, h) {
-            Part::Lies { value, next } => {
-                let item = items::value_item(i, value);
-                out = records::put_record(d, out, item);
-                p = next;
-                column += 16;
-                i += 1;
-                h = h / 4;
-            }
-            Part::Refused { fault: _, place: _ } => return out,
-        }
+        let lain = prefixes::known_clustering(s, p, s.len(), width, h);
+        let value = lain.value;
+        let item = items::value_item(i, value);
+        out = records::put_record(d, out, item);
+        p = lain.next;
+        column += 16;
+        i += 1;
+        h = h / 4;
     }
     out
 }
@@ -203,7 +197,7 @@ fn put_row(
     requires { ⌜ Table (length (now c)) k × Fitting (rowEntryAt (widthsOf (now c) k) b first (now s) at (length (now s))) (entryOf (rowEntryAt (widthsOf (now c) k) b first (now s) at (length (now s)))) (now d) to ⌝ }
     ensures { λ r. ⌜ PutsEntry (rowEntryAt (widthsOf (now (c .entry)) k) b first (now (s .entry)) at (length (now (s .entry)))) (now (d .entry)) (now (d .exit)) to r ⌝ }
 {
-    match rows::read_row(
+    let stood = rows::known_row(
         s,
         at,
         s.len(),
@@ -213,19 +207,16 @@ fn put_row(
         k.regulars,
         first,
         b,
-    ) {
-        rows::Found::Read { row, next } => {
-            let y = row.body;
-            let stop = y.stop;
-            if row.extended == 1 {
-                let out = put_static(c, k, b, s, row, next, d, to);
-                return Behind { next: stop, out };
-            }
-            let out = put_plain(c, k, b, s, row, next, d, to);
-            Behind { next: stop, out }
-        }
-        rows::Found::Refused { fault: _, place: _ } => Behind { next: at, out: to },
+    );
+    let row = stood.row;
+    let y = row.body;
+    let stop = y.stop;
+    if row.extended == 1 {
+        let out = put_static(c, k, b, s, row, stood.next, d, to);
+        return Behind { next: stop, out };
     }
+    let out = put_plain(c, k, b, s, row, stood.next, d, to);
+    Behind { next: stop, out }
 }
 
 // A marker that ends at next, with its values.

@@ -66,7 +66,8 @@ fn read_rest(
 }
 
 // How many clustering columns a row with the extended byte x has.
-fn clustering_of(x: u64, count: u64) -> u64
+// Internal, as the next: for code that reads rows.
+pub fn clustering_of(x: u64, count: u64) -> u64
     ensures { λ r. ⌜ r ≡ clusteringIn x count ⌝ }
 {
     if x == 1 {
@@ -76,7 +77,7 @@ fn clustering_of(x: u64, count: u64) -> u64
 }
 
 // How many columns a row may have cells of.
-fn cells_of(x: u64, statics: u64, regulars: u64) -> u64
+pub fn cells_of(x: u64, statics: u64, regulars: u64) -> u64
     ensures { λ r. ⌜ r ≡ cellsIn x statics regulars ⌝ }
 {
     if x == 1 {

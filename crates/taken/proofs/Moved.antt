@@ -13,6 +13,7 @@ use Rattle.wire.specs.Got.{Got, got, bad, on}
 use Rattle.wire.specs.Store.{shown}
 use Rattle.wire.specs.declared.refusal.Fault.{Fault}
 use Rattle.wire.specs.declared.times.Bases.{Bases}
+use Rattle.wire.proofs.Gives.{never, got-value, got-place}
 use Rattle.wire.proofs.RoundTrip.{Reads, reads-got, reads-on, reads-no}
 use Rattle.items.specs.Items.{item}
 use Rattle.items.specs.declared.Item.{Item}
@@ -31,22 +32,13 @@ use Rattle.taken.proofs.Sound.{not-either}
 pub record Follows {A B : Type 0} (x : Got A) (y : Got B) (P : A → B → ℕ → Type 0) : Type 0 where
   pub given : (a : A) (n : ℕ) → x ≡ got a n → Reads y n (λ c. P a c n)
 
-got-value : {A : Type 0} {a b : A} {m n : ℕ} → got a m ≡ got b n → a ≡ b
-got-value e = cc
-
-got-place : {A : Type 0} {a b : A} {m n : ℕ} → got a m ≡ got b n → m ≡ n
-got-place e = cc
-
-no-value : {A C : Type 0} {f : Fault} {p n : ℕ} {a : A} → bad f p ≡ got a n → C
-no-value e = let z : _≡_ {A = ℕ} 0 1 = cc in absurd (omega arith)
-
 pub follows-got : {A B : Type 0} {P : A → B → ℕ → Type 0} (a : A) (c : B) (n : ℕ) → P a c n → Follows (got a n) (got c n) P
 follows-got {P} a c n h = record {
   given = λ b m e. subst (λ k. Reads (got c n) k (λ d. P b d k)) (got-place e) (reads-got c n (subst (λ z. P z c n) (got-value e) h));
 }
 
 pub follows-bad : {A B : Type 0} {P : A → B → ℕ → Type 0} (f : Fault) (p : ℕ) (y : Got B) → Follows {A = A} (bad f p) y P
-follows-bad f p y = record { given = λ b m e. no-value e }
+follows-bad f p y = record { given = λ b m e. never e }
 
 pub follows-on : {A B C D : Type 0} {P : A → B → ℕ → Type 0} {Q : C → D → ℕ → Type 0} {x : Got A} {y : Got B} (k : A → ℕ → Got C) (l : B → ℕ → Got D) → Follows x y P
     → ((a : A) (c : B) (n : ℕ) → P a c n → Follows (k a n) (l c n) Q) → Follows (on x k) (on y l) Q
@@ -55,7 +47,7 @@ follows-on {A} {B} {C} {D} {P} {Q} {x} {y} k l h g = record { given = λ c m e. 
   where
     go : (z : Got A) → x ≡ z → (c : C) (m : ℕ) → on z k ≡ got c m → Reads (on y l) m (λ d. Q c d m)
     go (got a n) d c m e = reads-on l (h .given a n d) (λ u p. g a u n p .given c m e)
-    go (bad f p) d c m e = no-value e
+    go (bad f p) d c m e = never e
 
 pub follows-pick : {A B : Type 0} {P : A → B → ℕ → Type 0} (t u : Bool) {x v : Got A} {y w : Got B} → t ≡ u → Follows x y P → Follows v w P → Follows (pick t x v) (pick u y w) P
 unfolding pick

@@ -11,7 +11,7 @@ use lib.Dec.{ltb, leb, eqb, T, eqb→eq, leb→le}
 use lib.ListN.{length, getD, set, length-set}
 use lib.Pow.{pow-mono}
 use Rattle.wire.specs.Choose.{pick, bind}
-use Rattle.wire.specs.Got.{Got, got, bad, saidNum}
+use Rattle.wire.specs.Got.{Got, got, bad, saidNum, Took}
 use Rattle.wire.specs.declared.number.Num.{Num}
 use Rattle.wire.specs.declared.number.Num.the-variants.{Number}
 use Rattle.fixed.specs.BigEndian.{bigEndian, bytesOf}
@@ -21,11 +21,12 @@ use Rattle.wire.specs.declared.refusal.Fault.the-variants.{PastEnd}
 use Rattle.wire.proofs.Choose.{cases, pick-no, bind-self}
 use Rattle.wire.proofs.Finite.{below-at, allBelow, implies}
 use Rattle.fixed.proofs.BigEndian.{be-lt, be-bytes, getD-bytesOf, length-bytesOf}
-use Rattle.varints.proofs.Marker.{leading-small, low-small, leading-le, low-lt, low-fits}
 use Rattle.varints.proofs.Cuts.{cut-out}
+use Rattle.varints.proofs.Marker.{leading-small, low-small, leading-le, low-lt, low-fits}
 use Rattle.varints.proofs.Shortest.{extra-le, extra-fewest, top-lt, length-form, length-shortest}
 use Rattle.wire.proofs.Gives.{Gives, gives-got, gives-bad, gives-pick, gives-bind, gives-is}
 use Rattle.wire.proofs.Said.{num-got}
+use Rattle.wire.proofs.Took.{past, took-past}
 use Rattle.wire.proofs.RoundTrip.{Reads}
 use Rattle.wire.proofs.Splices.{splice-cons}
 use Rattle.wire.proofs.Puts.{puts-same}
@@ -42,16 +43,55 @@ unfolding bigEndian
 one-byte s at end h k l =
     rw (add-zero (at + 1)) at (whole s at end 0 _ (getD s at 0) h k (sym (leading-small _ l)) (omega arith) (sym (low-small _ l)) refl)
 
--- several bytes, cut out of eight
-pub whole-cut : (s : List ℕ) → ((k : ℕ) → getD s k 0 < 256) → (at end n w : ℕ) → end ≤ length s → at < end → 128 ≤ getD s at 0 → n ≡ leading 8 (getD s at 0) → n < end - at
-    → w ≡ bigEndian 0 s (at + n / 8) 8 → got (w * 2 ^ (n % 8) % 2 ^ 64 / 2 ^ (56 - 7 * n)) (at + 1 + n) ≡ varintAt s at end
-whole-cut s b at end n w h k g e l f = whole s at end n (low (getD s at 0)) _ h k e l refl (cut-out s b at n w g e f)
+-- a varint whose bytes are there is not refused
+pub stands-whole : (s : List ℕ) (at end n : ℕ) → end ≤ length s → at < end → n ≡ leading 8 (getD s at 0) → n < end - at → Took (varintAt s at end)
+stands-whole s at end n h k e l = record { value = _; place = _; is = sym (whole s at end n _ _ h k e l refl refl) }
 
 pub cut-off : (s : List ℕ) (at end n : ℕ) → end ≤ length s → at < end → n ≡ leading 8 (getD s at 0) → end - at ≤ n → bad PastEnd at ≡ varintAt s at end
 unfolding varintAt
 cut-off s at end n h k e l = search cases depth 12
 
-pub ruleset varint-cases = (one-byte, cut-off)
+pub ruleset varint-cases = (one-byte, stands-whole, cut-off)
+
+-- ---- a varint that is known to stand
+module _ (s : List ℕ) (at end : ℕ) (t : Took (varintAt s at end)) where
+  inside : end ≤ length s
+  unfolding varintAt
+  inside = ltb-false (length s) end (past _ _ _ _ t)
+
+  begins : at < end
+  unfolding varintAt
+  begins = leb-false end at (past _ _ _ _ (took-past _ _ _ _ t))
+
+  stands : leading 8 (getD s at 0) < end - at
+  unfolding varintAt bind
+  stands = leb-false (end - at) (leading 8 (getD s at 0)) (past _ _ _ _ (took-past _ _ _ _ (took-past _ _ _ _ t)))
+
+  pub known-index : at < length s
+  known-index = omega (arith, inside, begins)
+
+  pub known-more : length s < 2 ^ 64 → at + 1 < 18446744073709551616
+  known-more l = omega (arith, inside, begins)
+
+  pub known-one : getD s at 0 < 128 → got (getD s at 0) (at + 1) ≡ varintAt s at end
+  known-one l = one-byte s at end inside begins l
+
+  module _ (n : ℕ) (e : n ≡ leading 8 (getD s at 0)) where
+    pub known-last : at + n / 8 ≤ length s
+    known-last = omega (arith, inside, stands)
+
+    pub known-place : length s < 2 ^ 64 → at + n / 8 < 18446744073709551616
+    known-place l = omega (arith, inside, stands)
+
+    pub known-end : length s < 2 ^ 64 → at + 1 + n < 18446744073709551616
+    known-end l = omega (arith, inside, stands)
+
+    -- several bytes, cut out of eight
+    pub known-several : ((k : ℕ) → getD s k 0 < 256) → 128 ≤ getD s at 0 → (w : ℕ) → w ≡ bigEndian 0 s (at + n / 8) 8
+        → got (w * 2 ^ (n % 8) % 2 ^ 64 / 2 ^ (56 - 7 * n)) (at + 1 + n) ≡ varintAt s at end
+    known-several b l w f = whole s at end n (low (getD s at 0)) _ inside begins e (rw e stands) refl (cut-out s b at n w l e f)
+
+pub ruleset known = (known-index, known-more, known-one, known-last, known-place, known-end)
 
 -- ---- what is read: its number fits 64 bits, it ends past its place and not past the end, and takes no fewer bytes than the shortest
 pub record Varint (at end x n : ℕ) : Type 0 where

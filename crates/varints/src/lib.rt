@@ -2,9 +2,10 @@
 ghost use mathlib.Core.Path.{_≡_};
 ghost use Prim.Native.Nat.{_+_, _-_, _/_, _^_};
 ghost use lib.ListN.{length};
-ghost use Rattle.wire.specs.Got.{saidNum};
+ghost use Rattle.wire.specs.Got.{got, saidNum, Took};
 ghost use Rattle.varints.specs.Varints.{leading, varintAt, extra, shortest};
 ghost use Rattle.wire.specs.Store.{Room, Puts, Stores};
+use wire::number::Known;
 use wire::number::Num;
 use wire::number::Stored;
 use wire::refusal::Fault;
@@ -14,6 +15,29 @@ fn ones(b: u8) -> usize
     ensures { λ r. ⌜ r ≡ leading 8 b ⌝ }
 {
     u8::leading_zeros(255 - b) as usize
+}
+
+// The varint at at, before end, where it is known that one stands there: nothing is tested again.
+// Internal: for code that has read it before.
+pub fn known(s: &[u8], at: usize, end: usize) -> Known
+    requires { ⌜ Took (varintAt (now s) at end) ⌝ }
+    ensures { λ r. ⌜ got (r .value) (r .next) ≡ varintAt (now (s .entry)) at end ⌝ }
+{
+    let b = s[at];
+    // Most varints of a table have one byte.
+    if b < 128 {
+        return Known {
+            value: b as u64,
+            next: at + 1,
+        };
+    }
+    let n = ones(b);
+    // The eight bytes from the first on, or of nine the last; the marker goes out at the top, what follows the varint below.
+    let w = fixed::eight(s, at + n / 8);
+    Known {
+        value: (w << (n % 8)) >> (56 - 7 * n),
+        next: at + 1 + n,
+    }
 }
 
 // The varint at at, before end, of any form.
@@ -33,7 +57,6 @@ pub fn read(s: &[u8], at: usize, end: usize) -> Num
         };
     }
     let b = s[at];
-    // Most varints of a table have one byte.
     if b < 128 {
         return Num::Number {
             value: b as u64,
@@ -47,11 +70,10 @@ pub fn read(s: &[u8], at: usize, end: usize) -> Num
             place: at,
         };
     }
-    // The eight bytes from the first on, or of nine the last; the marker goes out at the top, what follows the varint below.
-    let w = fixed::eight(s, at + n / 8);
+    let varint = known(s, at, end);
     Num::Number {
-        value: (w << (n % 8)) >> (56 - 7 * n),
-        next: at + 1 + n,
+        value: varint.value,
+        next: varint.next,
     }
 }
 

@@ -11,13 +11,13 @@ use Rattle.wire.specs.declared.refusal.Fault.{Fault}
 pub record Gives {A : Type 0} (x : Got A) (P : A → ℕ → Type 0) : Type 0 where
   pub given : (a : A) (n : ℕ) → x ≡ got a n → P a n
 
-never : {A C : Type 0} {f : Fault} {p n : ℕ} {a : A} → bad f p ≡ got a n → C
+pub never : {A C : Type 0} {f : Fault} {p n : ℕ} {a : A} → bad f p ≡ got a n → C
 never e = let z : _≡_ {A = ℕ} 0 1 = cc in absurd (omega arith)
 
-got-value : {A : Type 0} {a b : A} {m n : ℕ} → got a m ≡ got b n → a ≡ b
+pub got-value : {A : Type 0} {a b : A} {m n : ℕ} → got a m ≡ got b n → a ≡ b
 got-value e = cc
 
-got-place : {A : Type 0} {a b : A} {m n : ℕ} → got a m ≡ got b n → m ≡ n
+pub got-place : {A : Type 0} {a b : A} {m n : ℕ} → got a m ≡ got b n → m ≡ n
 got-place e = cc
 
 pub gives-got : {A : Type 0} {P : A → ℕ → Type 0} (a : A) (n : ℕ) → P a n → Gives (got a n) P

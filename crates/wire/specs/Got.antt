@@ -1,6 +1,7 @@
 -- What reading at a place gives, and what follows it: the way in which every format of the library is defined. A reader takes the
 -- bytes, the place where it begins and the end of its region; written without them they pass through. Assumes nothing.
 use Prim.Native.Nat.{ℕ}
+use mathlib.Core.Path.{_≡_}
 use mathlib.Core.Bool.{Bool}
 use mathlib.Core.List.{List}
 use lib.Dec.{ltb}
@@ -42,6 +43,12 @@ when t f g s at end = pick t (f s at end) (g s at end)
 -- a, where the region is filled: 3 at the first byte left over
 abbrev pub filled : {A : Type 0} → A → Reader A
 filled a s at end = pick (ltb at end) (bad LeftOver at) (got a at)
+
+-- x is not refused: what one asks for who reads again what was read before, and so tests nothing
+pub record Took {A : Type 0} (x : Got A) : Type 0 where
+  pub value : A
+  pub place : ℕ
+  pub is : x ≡ got value place
 
 -- what the code's answer says, where it reads a number
 unfoldable pub saidNum : Num → Got ℕ

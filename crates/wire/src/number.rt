@@ -8,6 +8,12 @@ pub enum Num {
     Refused { fault: Fault, place: usize },
 }
 
+// A number, and the place after it, where it is known that it stands.
+pub struct Known {
+    pub value: u64,
+    pub next: usize,
+}
+
 // The answer of every call that stores bytes at a place, where they fit.
 pub enum Stored {
     // Stored: the place after them.

@@ -1,76 +1,60 @@
-use native.Mathlib.Omega.{arith}
-use Rattle.wire.proofs.Said.{reading, num-is}
+use Rattle.wire.proofs.Said.{reading}
 use Rattle.wire.proofs.Choose.{cases}
-use Rattle.varints.proofs.Varints.{varint-cases, whole-cut}
-use Rattle.varints.proofs.Marker.{leading-le}
-use Prim.Native.Nat.{_≤_}
+use Rattle.varints.proofs.Varints.{varint-cases}
 use Rattle.varints.specs.Varints.{varintAt}
 use borrow.Author.Needs.{needs}
 use Rattle.varints.proofs.read.Statement.{statement}
 use Rattle.varints.proofs.read.Tie as tie
+use Rattle.varints.proofs.read.Reads as reads
+use Rattle.varints.proofs.read.Lts as lts
+use Rattle.varints.proofs.known.Reads as known-reads
+use Rattle.varints.proofs.ones.Reads as ones-reads
 
+-- src/lib.rt:49:9
 returns : tie.Need-returns
 unfolding varintAt
 returns c = search (reading, cases, varint-cases, needs) depth 12
 
+-- src/lib.rt:55:9
 returns-2 : tie.Need-returns-2
 unfolding varintAt
 returns-2 c = search (reading, cases, varint-cases, needs) depth 12
 
+-- src/lib.rt:60:13
 shared-slice-read-b : tie.Need-shared-slice-read-b
 shared-slice-read-b c = search needs
 
+-- src/lib.rt:63:20
 cast-t13 : tie.Need-cast-t13
 cast-t13 c = search needs
 
+-- src/lib.rt:64:19
 add-t14 : tie.Need-add-t14
 add-t14 c = search needs
 
+-- src/lib.rt:62:9
 returns-3 : tie.Need-returns-3
 returns-3 c = search (reading, cases, varint-cases, needs) depth 12
 
+-- src/lib.rt:67:9
 ones-requires : tie.Need-ones-requires
 ones-requires c κs = search needs
 
+-- src/lib.rt:68:8
 sub-if4 : tie.Need-sub-if4
 sub-if4 c = search needs
 
+-- src/lib.rt:69:9
 returns-4 : tie.Need-returns-4
 returns-4 c = search (reading, cases, varint-cases, needs) depth 12
 
-add-eight : tie.Need-add-eight
-add-eight c = search needs
+-- src/lib.rt:74:9
+known-requires : tie.Need-known-requires
+known-requires c κs = search (reading, cases, varint-cases, needs) depth 12
 
-eight-requires : tie.Need-eight-requires
-eight-requires c κs = search needs
-
-shl-t18 : tie.Need-shl-t18
-shl-t18 c = search needs
-
-few : (c : tie.After-eight) → c .before .before .ones .result ≤ 8
-few c =
-    let at = c .before .before .before .before .before .before .before .before .args .at in
-    rw (c .before .before .ones .ensures) (leading-le _ (c .before .before .before .before .shared-slice-known2 .given at .fits))
-
-mul-t16 : tie.Need-mul-t16
-mul-t16 c = omega (arith, few c)
-
-sub-t19 : tie.Need-sub-t19
-sub-t19 c = omega (arith, few c)
-
-shr-t21 : tie.Need-shr-t21
-shr-t21 c = search needs
-
-add-t22 : tie.Need-add-t22
-add-t22 c = search needs
-
-add-t23 : tie.Need-add-t23
-add-t23 c = search needs
-
+-- src/lib.rt:45:1
 returns-5 : tie.Need-returns-5
-returns-5 c =
-    num-is _ _ _
-    (whole-cut _ (λ k. c .before .before .before .before .shared-slice-known2 .given k .fits) _ _ _ _ (omega arith) (omega arith) (omega arith) (c .before .before .ones .ensures) (omega arith) (c .eight .ensures))
+returns-5 c = search (reading, cases, varint-cases, needs) depth 12
 
 pub read-spec : {M : Type 1} → statement M
 read-spec =
@@ -85,12 +69,5 @@ read-spec =
     ones-requires
     sub-if4
     returns-4
-    add-eight
-    eight-requires
-    shl-t18
-    mul-t16
-    sub-t19
-    shr-t21
-    add-t22
-    add-t23
+    known-requires
     returns-5)

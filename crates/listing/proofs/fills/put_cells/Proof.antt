@@ -38,11 +38,8 @@ add-width c = search (putting, needs) depth 12
 shared-slice-read-width : tie.Need-shared-slice-read-width Inv-loop μ-loop
 shared-slice-read-width c = search (putting, needs) depth 12
 
-read-cell-requires : tie.Need-read-cell-requires Inv-loop μ-loop
-read-cell-requires c κs = search (putting, needs) depth 12
-
-enum-known-cell : tie.Need-enum-known-cell Inv-loop μ-loop
-enum-known-cell c = search (putting, needs) depth 12
+known-cell-requires : tie.Need-known-cell-requires Inv-loop μ-loop
+known-cell-requires c κs = search (putting, needs) depth 12
 
 cell-item-requires : tie.Need-cell-item-requires Inv-loop μ-loop
 cell-item-requires c κs = search (putting, needs) depth 12
@@ -68,20 +65,11 @@ loop-less c = search (putting, needs) depth 12
 loop-again : tie.Need-loop-again Inv-loop μ-loop
 loop-again c = search (putting, needs) depth 12
 
-enum-told : tie.Need-enum-told Inv-loop μ-loop
-enum-told c = search (putting, needs) depth 12
-
 same-length : tie.Need-same-length Inv-loop μ-loop
 same-length c = search (putting-same, needs)
 
 returns : tie.Need-returns Inv-loop μ-loop
 returns c = search (putting, needs) depth 12
-
-same-length-2 : tie.Need-same-length-2 Inv-loop μ-loop
-same-length-2 c = search (putting-same, needs)
-
-returns-2 : tie.Need-returns-2 Inv-loop μ-loop
-returns-2 c = search (putting, needs) depth 12
 
 pub put-cells-spec : {M : Type 1} → statement M
 put-cells-spec =
@@ -97,8 +85,7 @@ put-cells-spec =
     add-i
     add-width
     shared-slice-read-width
-    read-cell-requires
-    enum-known-cell
+    known-cell-requires
     cell-item-requires
     add-column-2
     add-i-2
@@ -107,8 +94,5 @@ put-cells-spec =
     put-record-requires
     loop-less
     loop-again
-    enum-told
     same-length
-    returns
-    same-length-2
-    returns-2)
+    returns)

@@ -23,11 +23,8 @@ add-width c = search (valuing, needs) depth 12
 shared-slice-read-width : tie.Need-shared-slice-read-width Inv-loop μ-loop
 shared-slice-read-width c = search (valuing, needs) depth 12
 
-read-clustering-requires : tie.Need-read-clustering-requires Inv-loop μ-loop
-read-clustering-requires c κs = search (valuing, needs) depth 12
-
-enum-known-value : tie.Need-enum-known-value Inv-loop μ-loop
-enum-known-value c = search (valuing, needs) depth 12
+known-clustering-requires : tie.Need-known-clustering-requires Inv-loop μ-loop
+known-clustering-requires c κs = search (valuing, needs) depth 12
 
 value-item-requires : tie.Need-value-item-requires Inv-loop μ-loop
 value-item-requires c κs = search (valuing, needs) depth 12
@@ -47,20 +44,11 @@ loop-less c = search (valuing, needs) depth 12
 loop-again : tie.Need-loop-again Inv-loop μ-loop
 loop-again c = search (valuing, needs) depth 12
 
-enum-told : tie.Need-enum-told Inv-loop μ-loop
-enum-told c = search (valuing, needs) depth 12
-
 same-length : tie.Need-same-length Inv-loop μ-loop
 same-length c = search (valuing-same, needs)
 
 returns : tie.Need-returns Inv-loop μ-loop
 returns c = search (valuing, needs) depth 12
-
-same-length-2 : tie.Need-same-length-2 Inv-loop μ-loop
-same-length-2 c = search (valuing-same, needs)
-
-returns-2 : tie.Need-returns-2 Inv-loop μ-loop
-returns-2 c = search (valuing, needs) depth 12
 
 pub put-values-spec : {M : Type 1} → statement M
 put-values-spec =
@@ -71,16 +59,12 @@ put-values-spec =
     loop-holds
     add-width
     shared-slice-read-width
-    read-clustering-requires
-    enum-known-value
+    known-clustering-requires
     value-item-requires
     put-record-requires
     add-column
     add-i
     loop-less
     loop-again
-    enum-told
     same-length
-    returns
-    same-length-2
-    returns-2)
+    returns)

@@ -1,0 +1,3 @@
+-- Parts of readings that are not refused: fields (KnownFields), and cells (KnownCells).
+pub mod KnownFields
+pub mod KnownCells
