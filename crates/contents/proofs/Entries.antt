@@ -22,7 +22,7 @@ use Rattle.walk.specs.Steps.{stepIn, endStep, markerStep, rowStep, itemStep}
 use Rattle.walk.specs.Walks.{follow}
 use Rattle.walk.specs.declared.cursors.Phase.the-variants.{Partition}
 use Rattle.walk.specs.declared.cursors.Cursor.{Cursor}
-use Rattle.walk.specs.Tables.{Table}
+use Rattle.tables.specs.Tables.{Table}
 use Rattle.contents.specs.Contents.{widthsOf, Entry, openBehind, rowEntryAt, markerEntryAt, entryAt, closedAt, entriesIn, entryListed, entriesListed}
 use Rattle.contents.proofs.Follows.{Walked, adds, run, add-one, adds-adds, run-bad, run-pick, run-same, adds-run, run-on, run-handed}
 use Rattle.contents.proofs.Gives.{byte-none, entry-gives, entry-moves}

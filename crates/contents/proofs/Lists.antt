@@ -22,7 +22,7 @@ use Rattle.walk.specs.Steps.{stepIn, handed, partitionStep, partitionAnswer}
 use Rattle.walk.specs.Walks.{start, add, follow, walkFrom}
 use Rattle.walk.specs.declared.cursors.Phase.the-variants.{Partition, First}
 use Rattle.walk.specs.declared.cursors.Cursor.{Cursor}
-use Rattle.walk.specs.Tables.{Table}
+use Rattle.tables.specs.Tables.{Table}
 use Rattle.walk.proofs.Moves.{walk-unfolds}
 use Rattle.contents.specs.Contents.{Widths, widthsOf, Entry, Contents, entriesIn, entriesAt, wholeAt, partitionsIn, contentsAt, entriesListed, listed, listing, contentsOf}
 use Rattle.contents.proofs.Follows.{Walked, adds, run, add-adds, run-got, run-same, adds-run, add-run, run-on, run-handed}

@@ -34,7 +34,7 @@ use Rattle.items.specs.declared.Item.{Item}
 use Rattle.walk.specs.declared.cursors.Phase.{Phase}
 use Rattle.walk.specs.declared.cursors.Phase.the-variants.{First, Items, Values, Statics, Cells}
 use Rattle.walk.specs.declared.cursors.Cursor.{Cursor}
-use Rattle.walk.specs.Tables.{Table}
+use Rattle.tables.specs.Tables.{Table}
 use Rattle.contents.specs.Contents.{widthsOf, Entry, staticEntry, rowEntry, openBehind, cellsAt, bodyCellsAt, rowEntryAt, valuesListed, cellsListed, entryListed}
 use Rattle.contents.proofs.Follows.{Walked, adds, run, adds-none, add-adds, adds-adds, adds-pick, run-got, run-same, adds-run, run-on}
 use Rattle.contents.proofs.Gives.{RowPlaced, row-placed, static-stands}

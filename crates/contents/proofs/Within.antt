@@ -21,7 +21,7 @@ use Rattle.row.specs.declared.rows.Row.{Row}
 use Rattle.marker.specs.declared.markers.Marker.{Marker}
 use Rattle.schema.specs.declared.records.Counts.{Counts}
 use Rattle.items.specs.Items.{partitionItem, rowItem, markerItem, valueItem, cellItem, endItem}
-use Rattle.walk.specs.Tables.{Table}
+use Rattle.tables.specs.Tables.{Table}
 use Rattle.walk.specs.Walks.{start, walkFrom}
 use Rattle.items.specs.declared.Item.{Item}
 use Rattle.contents.specs.Contents.{Widths, widthsOf, Entry, staticEntry, rowEntry, markerEntry, Contents, openBehind, contentsAt, valuesListed, cellsListed, entryListed, entriesListed, partitionListed, listed, listing, contentsOf}

@@ -19,7 +19,7 @@ use Rattle.wire.proofs.Said.{num-got}
 use Rattle.cell.specs.Fields.{live, byteAt}
 use Rattle.cell.specs.declared.fields.Deletion.{Deletion}
 use Rattle.schema.specs.declared.records.Counts.{Counts}
-use Rattle.walk.specs.Tables.{Table}
+use Rattle.tables.specs.Tables.{Table}
 use Rattle.contents.specs.Contents.{Widths, widthsOf, Entry, openBehind, rowEntryAt, markerEntryAt, entryAt, closedAt, entriesAt, entryListed, entriesListed}
 use Rattle.contents.proofs.Gives.{EntryIn, entry-gives, entry-moves}
 use Rattle.contents.proofs.Unfolds.{entries-unfold}

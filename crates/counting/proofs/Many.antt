@@ -13,7 +13,7 @@ use Rattle.cell.specs.declared.cells.Cell.{Cell}
 use Rattle.clustering.proofs.Gives.{ValuesIn}
 use Rattle.clustering.proofs.Loops.{widths-count}
 use Rattle.schema.specs.declared.records.Counts.{Counts}
-use Rattle.walk.specs.Tables.{Table}
+use Rattle.tables.specs.Tables.{Table}
 use Rattle.contents.specs.Contents.{Widths, widthsOf, Entry, staticEntry, rowEntry, markerEntry, openBehind, valuesListed, cellsListed, entryListed, entriesListed}
 use Rattle.contents.proofs.Gives.{CellsIn, EntryIn, EntriesIn, entry-moves}
 

@@ -18,7 +18,7 @@ use Rattle.marker.specs.declared.markers.Found.the-variants.{Read, Refused}
 use Rattle.marker.proofs.Gives.{MarkerOk, marker-gives}
 use Rattle.marker.proofs.Said.{found-got}
 use Rattle.schema.specs.declared.records.Counts.{Counts}
-use Rattle.walk.specs.Tables.{Table}
+use Rattle.tables.specs.Tables.{Table}
 use Rattle.contents.specs.Contents.{widthsOf, Entry, markerEntry, markerEntryAt, entryListed}
 use Rattle.counting.specs.Counted.{markerCounted, saidPassed}
 use Rattle.counting.specs.declared.counts.Passed.the-variants.{To, Refused as passed-refused}

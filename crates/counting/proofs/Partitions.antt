@@ -20,7 +20,7 @@ use Rattle.partition.specs.declared.partitions.Found.{Found}
 use Rattle.partition.specs.declared.partitions.Found.the-variants.{Read, Refused}
 use Rattle.partition.proofs.Said.{found-got}
 use Rattle.schema.specs.declared.records.Counts.{Counts}
-use Rattle.walk.specs.Tables.{Table}
+use Rattle.tables.specs.Tables.{Table}
 use Rattle.contents.specs.Contents.{widthsOf, Entry, Contents, entriesAt, wholeAt, contentsAt, entriesListed, partitionListed, listed}
 use Rattle.contents.proofs.Gives.{EntriesIn, Ended, entries-give, partition-moves}
 use Rattle.contents.proofs.Unfolds.{contents-unfold}

@@ -6,7 +6,7 @@ ghost use Rattle.wire.specs.Got.{saidNum};
 ghost use Rattle.cell.specs.Fields.{live};
 ghost use Rattle.clustering.specs.Prefixes.{widthsAt};
 ghost use Rattle.row.specs.Bodies.{columns};
-ghost use Rattle.walk.specs.Tables.{Table};
+ghost use Rattle.tables.specs.Tables.{Table};
 ghost use Rattle.contents.specs.Contents.{widthsOf, rowEntryAt, markerEntryAt, closedAt, entriesAt, contentsAt};
 ghost use Rattle.counting.specs.Counted.{wholeCellsAt, cellsCounted, entryCounted, markerCounted, entriesCounted, contentsCounted, saidPassed};
 use cell::cells;

@@ -17,7 +17,7 @@ use Rattle.wire.specs.declared.refusal.Slice.the-variants.{Data, Schema, Record
 use Rattle.wire.specs.declared.times.Bases.{Bases}
 use Rattle.schema.specs.Records.{schemaAt, schemaOf, anywhere}
 use Rattle.schema.specs.declared.records.Counts.{Counts}
-use Rattle.walk.specs.Tables.{badBases, after, tableAt}
+use Rattle.tables.specs.Tables.{badBases, after, tableAt}
 use Rattle.items.specs.declared.Item.{Item}
 use Rattle.contents.specs.Contents.{Widths, widthsOf, Contents, contentsAt, listed, listing, contentsOf}
 use Rattle.listing.specs.Lists.{listAt}

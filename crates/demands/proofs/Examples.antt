@@ -40,7 +40,7 @@ use Rattle.row.specs.Bodies.{contentAt as rowContentAt}
 use Rattle.row.specs.Rows.{restAt, rowAt}
 use Rattle.partition.specs.Partitions.{keyOf, deletedBy, deletedAt, partitionAt}
 use Rattle.items.specs.Items.{markOf, timeOf, partitionFlags, cellFlags, partitionItem, rowItem, valueItem, cellItem, endItem}
-use Rattle.walk.specs.Tables.{badBases, after, tableAt}
+use Rattle.tables.specs.Tables.{badBases, after, tableAt}
 use Rattle.contents.specs.Contents.{widthsOf, cellsAt, bodyCellsAt, rowEntryAt, entryAt, closedAt, entriesIn, entriesAt, wholeAt, partitionsIn, contentsAt, listing, contentsOf}
 use Rattle.listing.specs.Lists.{listAt}
 use Rattle.lines.specs.Numbers.{digits, decimal, signed}

@@ -16,7 +16,7 @@ use Rattle.wire.specs.declared.refusal.Slice.the-variants.{Output}
 use Rattle.wire.specs.declared.times.Bases.{Bases}
 use Rattle.schema.specs.Records.{schemaOf, anywhere}
 use Rattle.schema.specs.declared.records.Counts.{Counts}
-use Rattle.walk.specs.Tables.{badBases, tableAt}
+use Rattle.tables.specs.Tables.{badBases, tableAt}
 use Rattle.items.specs.declared.Item.{Item}
 use Rattle.contents.specs.Contents.{widthsOf, Contents, contentsAt, contentsOf}
 use Rattle.listing.specs.Lists.{listAt}

@@ -18,7 +18,7 @@ use Rattle.cell.specs.declared.cells.Times.{Times}
 use Rattle.clustering.specs.Prefixes.{widthsAt}
 use Rattle.marker.specs.declared.markers.Deletions.{Deletions}
 use Rattle.schema.specs.declared.records.Counts.{Counts}
-use Rattle.walk.specs.Tables.{Table}
+use Rattle.tables.specs.Tables.{Table}
 use Rattle.items.specs.declared.Item.{Item}
 use Rattle.contents.specs.Contents.{Widths, widthsOf, Entry, staticEntry, rowEntry, markerEntry}
 use Rattle.contents.proofs.Follows.{Parted, parted}

@@ -3,7 +3,7 @@ ghost use mathlib.Core.Path.{_≡_};
 ghost use Prim.Native.Nat.{_+_, _*_, _≤_};
 ghost use lib.ListN.{length};
 ghost use Rattle.clustering.specs.Prefixes.{widthsAt};
-ghost use Rattle.walk.specs.Tables.{Table};
+ghost use Rattle.tables.specs.Tables.{Table};
 ghost use Rattle.contents.specs.Contents.{widthsOf};
 ghost use Rattle.taken.specs.Fields.{itemOf};
 ghost use Rattle.taken.specs.Entries.{takenCells};

@@ -11,7 +11,7 @@ use Rattle.wire.specs.declared.times.Bases.{Bases}
 use Rattle.wire.proofs.RoundTrip.{Reads}
 use Rattle.wire.proofs.Stands.{Stands}
 use Rattle.schema.specs.declared.records.Counts.{Counts}
-use Rattle.walk.specs.Tables.{Table}
+use Rattle.tables.specs.Tables.{Table}
 use Rattle.contents.specs.Contents.{Widths, widthsOf, Contents, contentsAt}
 use Rattle.contents.proofs.Values.{widths-length}
 use Rattle.forms.specs.Views.{PartitionView, showContents}

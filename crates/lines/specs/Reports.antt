@@ -10,7 +10,7 @@ use Rattle.wire.specs.declared.refusal.Fault.the-variants.{OverLimit}
 use Rattle.wire.specs.declared.refusal.Slice.the-variants.{Statistics}
 use Rattle.statistics.specs.Header.{recordsOf}
 use Rattle.statistics.specs.Statistics.{File, fileAt}
-use Rattle.walk.specs.Tables.{after}
+use Rattle.tables.specs.Tables.{after}
 use Rattle.items.specs.declared.Item.{Item}
 use Rattle.listing.specs.Lists.{listAt}
 use Rattle.lines.specs.Lines.{linesOf, refusalLine}

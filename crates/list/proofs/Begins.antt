@@ -17,7 +17,7 @@ use Rattle.statistics.specs.Statistics.{File, Reads}
 use Rattle.statistics.specs.declared.Table.{Table}
 use Rattle.statistics.specs.declared.Answer.{Answer}
 use Rattle.statistics.specs.declared.Answer.the-variants.{Read, Refused as answer-refused}
-use Rattle.walk.specs.Tables.{after}
+use Rattle.tables.specs.Tables.{after}
 use Rattle.items.specs.declared.Item.{Item}
 use Rattle.listing.specs.Lists.{listAt, counted, saidListed}
 use Rattle.listing.specs.declared.lists.Listed.{Listed}

@@ -10,9 +10,9 @@ use Rattle.wire.specs.declared.refusal.Fault.{Fault}
 use Rattle.wire.specs.declared.refusal.Slice.{Slice}
 use Rattle.wire.specs.declared.times.Bases.{Bases}
 use Rattle.schema.specs.declared.records.Counts.{Counts}
-use Rattle.walk.specs.Tables.{tableAt, after}
+use Rattle.tables.specs.Tables.{tableAt, after}
 use Rattle.walk.specs.Walks.{start, remaining}
-use Rattle.walk.proofs.Schemas.{table-taken}
+use Rattle.tables.proofs.Schemas.{table-taken}
 use Rattle.contents.specs.Contents.{contentsOf}
 use Rattle.contents.proofs.Lists.{walk-lists}
 use Rattle.items.specs.declared.Item.{Item}

@@ -5,7 +5,7 @@ use lib.ListN.{take}
 use Rattle.wire.specs.Refusals.{Outcome, taken, saidRefusal}
 use Rattle.wire.specs.declared.times.Bases.{Bases}
 use Rattle.statistics.specs.Header.{recordsOf}
-use Rattle.walk.specs.Tables.{after}
+use Rattle.tables.specs.Tables.{after}
 use Rattle.listing.specs.Lists.{listAt}
 use Rattle.lines.specs.Reports.{statisticsAt}
 use Rattle.list.specs.declared.report.Begun.{Begun}

@@ -23,11 +23,11 @@ use Rattle.schema.specs.declared.records.Checked.{Checked}
 use Rattle.schema.specs.declared.records.Checked.the-variants.{Counted, Refused as checked-refused}
 use Rattle.walk.specs.Cursors.{atItems}
 use Rattle.walk.specs.Steps.{Answer, stepIn}
-use Rattle.walk.specs.Tables.{Table, after, tableAt}
+use Rattle.tables.specs.Tables.{Table, after, tableAt}
 use Rattle.walk.specs.Walks.{start, remaining, add, follow, walkIn, walkFrom}
 use Rattle.items.specs.declared.Item.{Item}
 use Rattle.walk.specs.declared.cursors.Cursor.{Cursor}
-use Rattle.walk.proofs.Schemas.{told-table}
+use Rattle.tables.proofs.Schemas.{told-table}
 use Rattle.contents.specs.Contents.{contentsOf}
 use Rattle.contents.proofs.Lists.{walk-lists}
 use Rattle.listing.specs.Lists.{listAt, counted, fitted, recordBytes, kept, saidListed, Ready, Lists}

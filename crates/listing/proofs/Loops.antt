@@ -21,7 +21,7 @@ use Rattle.contents.proofs.Lists.{walk-lists}
 use Rattle.counting.specs.Counted.{contentsCounted}
 use Rattle.counting.proofs.Follows.{num-bad}
 use Rattle.schema.specs.declared.records.Counts.{Counts}
-use Rattle.walk.specs.Tables.{Table}
+use Rattle.tables.specs.Tables.{Table}
 use Rattle.walk.specs.Walks.{start, walkFrom}
 use Rattle.items.specs.declared.Item.{Item}
 use Rattle.listing.specs.Records.{signedBytes, kindBytes, columnBytes, headBytes, localBytes, timeBytes, secondBytes, placeBytes, tailBytes, recordOf, recordsOf}

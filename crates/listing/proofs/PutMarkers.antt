@@ -18,7 +18,7 @@ use Rattle.marker.specs.declared.markers.Found.the-variants.{Read, Refused}
 use Rattle.marker.proofs.Gives.{MarkerOk}
 use Rattle.schema.specs.declared.records.Counts.{Counts}
 use Rattle.items.specs.Items.{markerItem}
-use Rattle.walk.specs.Tables.{Table}
+use Rattle.tables.specs.Tables.{Table}
 use Rattle.items.specs.declared.Item.{Item}
 use Rattle.contents.specs.Contents.{widthsOf, Entry, markerEntry, openBehind, markerEntryAt}
 use Rattle.contents.proofs.Values.{widths-take}

@@ -9,7 +9,7 @@ ghost use Rattle.cell.specs.Fields.{live};
 ghost use Rattle.clustering.specs.Prefixes.{valuesAt, widthsAt};
 ghost use Rattle.row.specs.Bodies.{columns};
 ghost use Rattle.items.specs.Items.{rowItem, markerItem};
-ghost use Rattle.walk.specs.Tables.{Table};
+ghost use Rattle.tables.specs.Tables.{Table};
 ghost use Rattle.contents.specs.Contents.{widthsOf, rowEntryAt, markerEntryAt, entriesAt, contentsAt};
 ghost use Rattle.counting.specs.Counted.{wholeCellsAt};
 ghost use Rattle.listing.specs.Records.{recordsOf};

@@ -2,7 +2,7 @@
 ghost use mathlib.Core.Path.{_≡_};
 ghost use Prim.Native.Nat.{_≤_};
 ghost use lib.ListN.{length};
-ghost use Rattle.walk.specs.Tables.{Table};
+ghost use Rattle.tables.specs.Tables.{Table};
 ghost use Rattle.contents.specs.Contents.{widthsOf};
 ghost use Rattle.taken.specs.Entries.{takenStatic, takenRow, takenMarker, takenEntry};
 ghost use Rattle.measuring.specs.Measured.{sizedLength, bodyLength, staticLength, rowLength, markerLength, staticBehind, rowBehind, entryMeasured, saidPassed};

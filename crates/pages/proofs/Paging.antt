@@ -17,7 +17,7 @@ use Rattle.schema.specs.declared.records.Counts.{Counts}
 use Rattle.schema.specs.declared.records.Checked.{Checked}
 use Rattle.schema.specs.declared.records.Checked.the-variants.{Counted, Refused as checked-refused}
 use Rattle.walk.specs.Steps.{Answer, stepIn, saidStep}
-use Rattle.walk.specs.Tables.{tableAt}
+use Rattle.tables.specs.Tables.{tableAt}
 use Rattle.items.specs.declared.Item.{Item}
 use Rattle.walk.specs.declared.cursors.Cursor.{Cursor}
 use Rattle.walk.specs.declared.steps.Step.{Step}

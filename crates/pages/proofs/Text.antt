@@ -9,12 +9,12 @@ use Rattle.wire.specs.Refusals.{Outcome, taken, refused}
 use Rattle.wire.specs.declared.times.Bases.{Bases}
 use Rattle.schema.specs.declared.records.Counts.{Counts}
 use Rattle.walk.specs.Steps.{Answer, Handed, stepIn}
-use Rattle.walk.specs.Tables.{Table, tableAt}
+use Rattle.tables.specs.Tables.{Table, tableAt}
 use Rattle.walk.specs.Walks.{remaining, add, follow, walkFrom}
 use Rattle.items.specs.declared.Item.{Item}
 use Rattle.walk.specs.declared.cursors.Cursor.{Cursor}
 use Rattle.walk.proofs.Moves.{step-moves, walk-unfolds}
-use Rattle.walk.proofs.Schemas.{table-taken}
+use Rattle.tables.proofs.Schemas.{table-taken}
 use Rattle.lines.specs.Lines.{lineOf, linesOf, refusalLine}
 use Rattle.pages.specs.Pages.{Page, more, last, before, onward, pageIn, inTable, pageAt, joined, printed}
 

@@ -9,7 +9,7 @@ use Rattle.wire.specs.Store.{splice}
 use Rattle.wire.specs.declared.times.Bases.{Bases}
 use Rattle.schema.specs.declared.records.Counts.{Counts}
 use Rattle.walk.specs.Steps.{Answer, stepIn}
-use Rattle.walk.specs.Tables.{tableAt}
+use Rattle.tables.specs.Tables.{tableAt}
 use Rattle.walk.specs.declared.cursors.Cursor.{Cursor}
 use Rattle.lines.specs.Lines.{lineOf, refusalLine}
 use Rattle.pages.specs.declared.Filled.{Filled}

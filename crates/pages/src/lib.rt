@@ -1,7 +1,7 @@
 // The text of a walk through Data, a page at a time.
 ghost use Prim.Native.Nat.{_≤_};
 ghost use lib.ListN.{length};
-ghost use Rattle.walk.specs.Tables.{Table};
+ghost use Rattle.tables.specs.Tables.{Table};
 ghost use Rattle.pages.specs.Pages.{pageIn, pageAt, lenOf, Fills};
 use lines::line;
 use lines::refusals;
@@ -10,7 +10,6 @@ use schema::records::Counts;
 use walk::cursors::Cursor;
 use walk::steps;
 use walk::steps::Step;
-use walk::tables;
 use wire::times::Bases;
 
 // How many bytes of a page are filled, and whether there is more.

@@ -17,7 +17,7 @@ use Rattle.wire.specs.declared.refusal.Refusal.{Refusal}
 use Rattle.wire.specs.declared.times.Bases.{Bases}
 use Rattle.walk.specs.Cursors.{atItems}
 use Rattle.walk.specs.Steps.{Answer, badState, partitionAnswer, stepIn, stepAt, saidStep}
-use Rattle.walk.specs.Tables.{after, tableAt}
+use Rattle.tables.specs.Tables.{after, tableAt}
 use Rattle.walk.specs.Walks.{start}
 use Rattle.items.specs.declared.Item.{Item}
 use Rattle.walk.specs.declared.cursors.Cursor.{Cursor}

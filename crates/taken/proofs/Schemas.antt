@@ -22,8 +22,8 @@ use Rattle.typetable.proofs.Rows.{none-at, line-range}
 use Rattle.schema.specs.Records.{roleAt, lineAt, markAt, widthAt, isLineOf, isKindOf, given, inTurn, recordAt, recordsAt, none, schemaAt, schemaOf, anywhere}
 use Rattle.schema.specs.declared.records.Counts.{Counts}
 use Rattle.clustering.specs.Prefixes.{widthsAt}
-use Rattle.walk.specs.Tables.{Table, badBases, tableAt}
-use Rattle.walk.proofs.Schemas.{table-taken}
+use Rattle.tables.specs.Tables.{Table, badBases, tableAt}
+use Rattle.tables.proofs.Schemas.{table-taken}
 use Rattle.contents.specs.Contents.{widthsOf}
 use Rattle.contents.proofs.Values.{widths-length}
 use Rattle.forms.specs.Fits.{Bounded}

@@ -23,7 +23,7 @@ use Rattle.turns.specs.Turns.{badKind, isStart, isBoundary, outOfTurn}
 use Rattle.marker.specs.Markers.{openAfter}
 use Rattle.turns.specs.Turns.{sameDeletion}
 use Rattle.items.specs.Items.{item, zeroed}
-use Rattle.walk.specs.Tables.{badBases, after}
+use Rattle.tables.specs.Tables.{badBases, after}
 use Rattle.items.specs.declared.Item.{Item}
 use Rattle.contents.specs.Contents.{Widths, widthsOf}
 use Rattle.listing.specs.Records.{signedBytes, kindBytes, columnBytes, headBytes, localBytes, timeBytes, secondBytes, placeBytes, tailBytes, recordOf, recordsOf}

@@ -27,7 +27,7 @@ use Rattle.partition.specs.Partitions.{partitionAt, deletedAt, deletedBy}
 use Rattle.schema.specs.declared.records.Counts.{Counts}
 use Rattle.walk.specs.Cursors.{badValues, badPrefix, badCells, atItems, atCells, behindValue, behindCell, behindMarker, behindRow}
 use Rattle.walk.specs.Steps.{Handed, Answer, handed, partitionStep, endStep, markerStep, rowHanded, rowStep, itemStep, valueStep, cellStep, cellsStep, partitionAnswer, itemAnswer, valuesAnswer, prefixAnswer, cellsAnswer, staticsAnswer, stepIn}
-use Rattle.walk.specs.Tables.{Table}
+use Rattle.tables.specs.Tables.{Table}
 use Rattle.walk.specs.Walks.{reachIn, leftIn, remaining, follow, add, walkIn, walkFrom}
 use Rattle.items.specs.declared.Item.{Item}
 use Rattle.walk.specs.declared.cursors.Phase.{Phase}

@@ -19,7 +19,7 @@ use Rattle.schema.specs.declared.records.Counts.{Counts}
 use Rattle.schema.specs.declared.records.Checked.{Checked}
 use Rattle.schema.specs.declared.records.Checked.the-variants.{Counted, Refused as checked-refused}
 use Rattle.walk.specs.Steps.{Handed, Answer, hands, handed, partitionAnswer, itemAnswer, valuesAnswer, prefixAnswer, staticsAnswer, cellsAnswer, isStatic, isOfCells, columnsAt, columnsOf, lacking, columnsAnswer, stepIn, saidMoved, saidStep}
-use Rattle.walk.specs.Tables.{after}
+use Rattle.tables.specs.Tables.{after}
 use Rattle.items.specs.declared.Item.{Item}
 use Rattle.walk.specs.declared.cursors.Cursor.{Cursor}
 use Rattle.walk.specs.declared.cursors.Phase.{Phase}

@@ -30,7 +30,7 @@ use Rattle.schema.specs.declared.records.Counts.{Counts}
 use Rattle.items.specs.Items.{item, zeroed, markOf, timeOf, partitionFlags, cellFlags, partitionItem, rowItem, valueItem, cellItem, endItem}
 use Rattle.walk.specs.Cursors.{hand, cursor, none, outside, badColumn, badValues, badCells, atItems, atCells, behindValue, behindCell, behindRow}
 use Rattle.walk.specs.Steps.{Answer, badState, done, partitionStep, endStep, rowHanded, rowStep, itemStep, valueStep, cellStep, cellsStep, handed, partitionAnswer, itemAnswer, valuesAnswer, cellsAnswer, staticsAnswer, stepIn, stepAt}
-use Rattle.walk.specs.Tables.{badBases, after, tableAt}
+use Rattle.tables.specs.Tables.{badBases, after, tableAt}
 use Rattle.walk.specs.declared.cursors.Phase.the-variants.{Partition, First, Items, Values, Statics, Cells}
 use Rattle.walk.specs.declared.cursors.Cursor.{Cursor}
 

@@ -1,4 +1,3 @@
 pub mod Cursors
-pub mod Tables
 pub mod Steps
 pub mod Walks

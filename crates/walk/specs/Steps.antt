@@ -22,7 +22,7 @@ use Rattle.row.specs.declared.rows.Row.{Row}
 use Rattle.marker.specs.Markers.{markerAt}
 use Rattle.partition.specs.Partitions.{partitionAt}
 use Rattle.schema.specs.declared.records.Counts.{Counts}
-use Rattle.walk.specs.Tables.{after, tableAt}
+use Rattle.tables.specs.Tables.{after, tableAt}
 use Rattle.items.specs.Items.{partitionItem, rowItem, markerItem, valueItem, cellItem, endItem}
 use Rattle.walk.specs.Cursors.{badValues, badPrefix, badCells, atItems, atCells, behindValue, behindCell, behindMarker, behindRow}
 use Rattle.items.specs.declared.Item.{Item}

@@ -25,8 +25,8 @@ use Rattle.schema.specs.Records.{schemaOf, anywhere, saidChecked}
 use Rattle.schema.specs.declared.records.Counts.{Counts}
 use Rattle.schema.specs.declared.records.Checked.{Checked}
 use Rattle.schema.specs.declared.records.Checked.the-variants.{Counted, Refused as checked-refused}
-use Rattle.walk.specs.Tables.{Table, badBases, after, tableAt}
-use Rattle.walk.proofs.Schemas.{table-taken}
+use Rattle.tables.specs.Tables.{Table, badBases, after, tableAt}
+use Rattle.tables.proofs.Schemas.{table-taken}
 use Rattle.contents.specs.Contents.{Widths, widthsOf, Contents}
 use Rattle.counting.proofs.Follows.{num-bad}
 use Rattle.forms.specs.Whole.{contentsBytes}

@@ -5,7 +5,7 @@ use mathlib.Core.List.{List}
 use lib.ListN.{length}
 use Rattle.wire.specs.Refusals.{Outcome, taken, refused, saidRefusal}
 use Rattle.wire.specs.Store.{splice}
-use Rattle.walk.specs.Tables.{after}
+use Rattle.tables.specs.Tables.{after}
 use Rattle.taken.specs.Writes.{fitting}
 use Rattle.writer.specs.declared.writes.Written.{Written}
 use Rattle.writer.specs.declared.writes.Written.the-variants.{Length, Refused}

@@ -1,4 +1,4 @@
-use Rattle.walk.proofs.Schemas.{tables}
+use Rattle.tables.proofs.Schemas.{tables}
 use Rattle.wire.proofs.Puts.{puts-same}
 use Rattle.pages.proofs.Paging.{page-counted, page-unchecked}
 use borrow.Author.Needs.{needs}

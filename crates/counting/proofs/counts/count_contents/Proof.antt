@@ -1,4 +1,4 @@
-use Rattle.walk.proofs.Schemas.{tables}
+use Rattle.tables.proofs.Schemas.{tables}
 use Rattle.counting.proofs.Partitions.{Passing, passing}
 use Rattle.counting.specs.Counted.{contentsCounted}
 use Rattle.contents.specs.Contents.{widthsOf, contentsAt}

@@ -1,4 +1,4 @@
-use Rattle.walk.proofs.Schemas.{tables}
+use Rattle.tables.proofs.Schemas.{tables}
 use Rattle.counting.proofs.Entries.{Entering, entering}
 use Rattle.counting.specs.Counted.{entriesCounted}
 use Rattle.contents.specs.Contents.{widthsOf, entriesAt}

@@ -1,4 +1,4 @@
-use Rattle.walk.proofs.Schemas.{tables}
+use Rattle.tables.proofs.Schemas.{tables}
 use Rattle.counting.proofs.Markers.{markers}
 use borrow.Author.Needs.{needs}
 use Rattle.counting.proofs.counts.count_marker.Statement.{statement}

@@ -1,5 +1,5 @@
 use Rattle.filling.proofs.PutRows.{knowns, rows}
-use Rattle.walk.proofs.Schemas.{tables}
+use Rattle.tables.proofs.Schemas.{tables}
 use borrow.Author.Needs.{needs}
 use Rattle.filling.proofs.entries.put_row.Statement.{statement}
 use Rattle.filling.proofs.entries.put_row.Tie as tie

@@ -1,4 +1,4 @@
-use Rattle.walk.proofs.Schemas.{tables}
+use Rattle.tables.proofs.Schemas.{tables}
 use Rattle.listing.proofs.PutContents.{Filing, filing}
 use Rattle.contents.specs.Contents.{widthsOf, contentsAt}
 use lib.ListN.{length}

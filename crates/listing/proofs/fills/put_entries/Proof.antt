@@ -1,4 +1,4 @@
-use Rattle.walk.proofs.Schemas.{tables}
+use Rattle.tables.proofs.Schemas.{tables}
 use Rattle.listing.proofs.PutEntries.{Storing, storing, storing-same, storing-end-same}
 use Rattle.contents.specs.Contents.{widthsOf, entriesAt}
 use Rattle.cell.specs.Fields.{live}

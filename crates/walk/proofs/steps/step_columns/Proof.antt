@@ -1,6 +1,7 @@
 use Rattle.wire.proofs.Choose.{cases}
 use Rattle.walk.proofs.Said.{answers}
-use Rattle.walk.proofs.Schemas.{columns, tables}
+use Rattle.walk.proofs.Columns.{columns}
+use Rattle.tables.proofs.Schemas.{tables}
 use Rattle.walk.specs.Steps.{columnsAnswer}
 use borrow.Author.Needs.{needs}
 use Rattle.walk.proofs.steps.step_columns.Statement.{statement}

@@ -1,4 +1,4 @@
-use Rattle.walk.proofs.Schemas.{tables}
+use Rattle.tables.proofs.Schemas.{tables}
 use Rattle.walk.proofs.Said.{phases}
 use borrow.Author.Needs.{needs}
 use Rattle.walk.proofs.steps.step_in.Statement.{statement}

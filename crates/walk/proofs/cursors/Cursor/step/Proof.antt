@@ -1,7 +1,7 @@
 use Rattle.walk.specs.Steps.{stepAt}
 use Rattle.wire.proofs.Choose.{cases}
 use Rattle.walk.proofs.Said.{answers}
-use Rattle.walk.proofs.Schemas.{tables}
+use Rattle.tables.proofs.Schemas.{tables}
 use borrow.Author.Needs.{needs}
 use Rattle.walk.proofs.cursors.Cursor.step.Statement.{statement}
 use Rattle.walk.proofs.cursors.Cursor.step.Tie as tie

@@ -4,7 +4,7 @@ ghost use lib.ListN.{length};
 ghost use Rattle.schema.specs.Records.{saidChecked};
 ghost use Rattle.wire.specs.Refusals.{refused};
 ghost use Rattle.wire.specs.declared.refusal.Fault.the-variants.{OverLimit};
-ghost use Rattle.walk.specs.Tables.{badBases, tableAt};
+ghost use Rattle.tables.specs.Tables.{badBases, tableAt};
 use schema::records;
 use schema::records::Checked;
 use wire::refusal::Fault;

@@ -1,8 +1,8 @@
 use Rattle.wire.proofs.Choose.{cases}
 use Rattle.schema.proofs.Said.{answers}
 use borrow.Author.Needs.{needs}
-use Rattle.walk.proofs.tables.over.Statement.{statement}
-use Rattle.walk.proofs.tables.over.Tie as tie
+use Rattle.tables.proofs.over.Statement.{statement}
+use Rattle.tables.proofs.over.Tie as tie
 
 returns : tie.Need-returns
 returns c = search (answers, cases) depth 12

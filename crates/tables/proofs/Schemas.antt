@@ -16,8 +16,7 @@ use Rattle.wire.specs.declared.times.Bases.{Bases}
 use Rattle.wire.proofs.Gives.{Gives, gives-got, gives-bad, gives-on, gives-pick}
 use Rattle.schema.specs.Records.{roleAt, none, given, isFirst, isPassed, countOf, mostOf, inTurn, withOne, recordAt, recordsAt, schemaAt, schemaOf, anywhere, saidChecked}
 use Rattle.schema.specs.declared.records.Counts.{Counts}
-use Rattle.walk.specs.Steps.{columnsAt, columnsOf}
-use Rattle.walk.specs.Tables.{Table, badBases, tableAt}
+use Rattle.tables.specs.Tables.{Table, badBases, tableAt}
 use Rattle.schema.specs.declared.records.Checked.{Checked}
 use Rattle.schema.specs.declared.records.Checked.the-variants.{Counted, Refused}
 
@@ -172,24 +171,5 @@ module _ (len : ℕ) (k : Counts) (t : Table len k) where
 
   pub table-regulars : (x : ℕ) → x ≡ k .regulars → x ≤ 63
   table-regulars x a = omega (arith, t .regulars)
-
-  -- of the static columns, or the regular ones
-  columns-in : (u : Bool) → columnsAt u k + 16 * columnsOf u k ≤ len
-  unfolding columnsAt columnsOf pick
-  columns-in true = omega (arith, t .filled)
-  columns-in false = omega (arith, t .filled)
-
-  columns-few : (u : Bool) → columnsOf u k ≤ 63
-  unfolding columnsOf pick
-  columns-few true = t .statics
-  columns-few false = t .regulars
-
-  pub table-columns-in : (u : Bool) (base x : ℕ) → base ≡ columnsAt u k → x ≡ columnsOf u k → base + 16 * x ≤ len
-  table-columns-in u base x a e = omega (arith, columns-in u)
-
-  pub table-columns-few : (u : Bool) (x : ℕ) → x ≡ columnsOf u k → x ≤ 63
-  table-columns-few u x a = omega (arith, columns-few u)
-
-pub ruleset columns = (table-columns-in, table-columns-few)
 
 pub ruleset tables = (table-filled, table-rows, table-statics-in, table-regulars-in, table-clustering, table-statics, table-regulars, told-table, told-length, refl)

@@ -1,9 +1,9 @@
-use Rattle.walk.specs.Tables.{tableAt}
+use Rattle.tables.specs.Tables.{tableAt}
 use Rattle.wire.proofs.Choose.{cases, told}
 use Rattle.schema.proofs.Said.{answers}
 use borrow.Author.Needs.{needs}
-use Rattle.walk.proofs.tables.check.Statement.{statement}
-use Rattle.walk.proofs.tables.check.Tie as tie
+use Rattle.tables.proofs.check.Statement.{statement}
+use Rattle.tables.proofs.check.Tie as tie
 
 over-requires : tie.Need-over-requires
 over-requires c κs = search needs

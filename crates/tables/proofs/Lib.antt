@@ -1,0 +1,2 @@
+-- The counts of a schema that is not refused (Schemas).
+pub mod Schemas
