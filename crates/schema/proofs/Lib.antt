@@ -1,4 +1,5 @@
 pub mod Said
-pub mod Checks
+pub mod Lines
 pub mod Fields
-pub mod Loops
+pub mod Runs
+pub mod Whole

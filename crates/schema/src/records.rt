@@ -1,8 +1,10 @@
 // Whether schema records are ones that Statistics gives.
 ghost use mathlib.Core.Path.{_≡_};
-ghost use Prim.Native.Nat.{_+_, _≤_, _<_};
-ghost use lib.ListN.{length, getD};
-ghost use Rattle.schema.specs.Records.{isLineOf, isNameOf, isKindOf, given, countOf, mostOf, isPassed, isFirst, inTurn, withOne, recordAt, schemaAt, anywhere, schemaOf, saidFound, saidChecked};
+ghost use Prim.Native.Nat.{_+_, _*_, _≤_};
+ghost use lib.ListN.{length};
+ghost use Rattle.typetable.specs.Table.{lineOf};
+ghost use Rattle.schema.specs.Records.{nameAt, nameLenAt, isLineOf, isNameOf, isKindOf, mostOf, schemaAt, anywhere, schemaOf, saidFound, saidChecked};
+ghost use Rattle.schema.specs.Runs.{allWidths, isOf, lesserOf, runOf};
 use wire::refusal::Fault;
 use wire::refusal::Refusal;
 use wire::refusal::Slice;
@@ -25,21 +27,79 @@ pub enum Checked {
     Refused(Refusal),
 }
 
+// The lines that a record may have, a bit for each: of key and clustering columns all 34 but Reversed's own, 24; of static and regular
+// ones neither CounterColumn, List, Map, Set nor User.
+const KEY_LINES: u64 = 0x7_feff_fffe;
+
+const COLUMN_LINES: u64 = 0x6_fcaf_ff7e;
+
+// The width of each line's values, from line 0: one load for a record, where typetable::width is a jump. Code that names an array
+// stores it anew, so it is named once for a schema and lent.
+const WIDTHS: [u8; 35] = [
+    0, // no line
+    255, // 1 Ascii
+    1, // 2 Boolean
+    255, // 3 Bytes
+    255, // 4 Byte
+    255, // 5 ColumnToCollection
+    255, // 6 Composite
+    255, // 7 CounterColumn
+    8, // 8 Date
+    255, // 9 Decimal
+    8, // 10 Double
+    255, // 11 Duration
+    255, // 12 DynamicComposite
+    255, // 13 Empty
+    4, // 14 Float
+    255, // 15 Frozen
+    255, // 16 InetAddress
+    4, // 17 Int32
+    255, // 18 Integer
+    16, // 19 LexicalUUID
+    255, // 20 List
+    8, // 21 Long
+    255, // 22 Map
+    255, // 23 PartitionerDefinedOrder
+    255, // 24 Reversed
+    255, // 25 Set
+    255, // 26 Short
+    255, // 27 SimpleDate
+    8, // 28 Timestamp
+    255, // 29 Time
+    16, // 30 TimeUUID
+    255, // 31 Tuple
+    255, // 32 User
+    255, // 33 UTF8
+    16, // 34 UUID
+];
+
 // Whether a record of the role may have the line.
 fn is_line_of(role: u8, line: u8) -> bool
     ensures { λ r. ⌜ r ≡ isLineOf role line ⌝ }
 {
-    if line == 24 {
+    if 34 < line {
         return false;
     }
     if role < 2 {
-        return typetable::is_line(line);
+        return (KEY_LINES >> line) % 2 == 1;
     }
-    typetable::is_of_columns(line)
+    (COLUMN_LINES >> line) % 2 == 1
+}
+
+// The width of the line's values.
+fn width_in(widths: &[u8; 35], line: u8) -> u8
+    requires { ⌜ now widths ≡ allWidths ⌝ }
+    ensures { λ r. ⌜ r ≡ lineOf line .width ⌝ }
+{
+    if 34 < line {
+        return 0;
+    }
+    widths[line as usize]
 }
 
 // Whether role, line, mark and width go together.
-fn is_kind_of(role: u8, line: u8, mark: u8, width: u8) -> bool
+fn is_kind_of(widths: &[u8; 35], role: u8, line: u8, mark: u8, width: u8) -> bool
+    requires { ⌜ now widths ≡ allWidths ⌝ }
     ensures { λ r. ⌜ r ≡ isKindOf role line mark width ⌝ }
 {
     if 3 < role {
@@ -49,76 +109,44 @@ fn is_kind_of(role: u8, line: u8, mark: u8, width: u8) -> bool
         if 1 < mark {
             return false;
         }
-        return width == typetable::width(line);
+        return width == width_in(widths, line);
     }
     false
 }
 
-// Whether the name's place is one that the role may have.
-fn is_name_of(limit: u64, role: u8, name: u64, len: u64) -> bool
-    ensures { λ r. ⌜ r ≡ isNameOf limit role name len ⌝ }
+// Whether the name's place in the record at at is one that the role may have.
+fn is_name_at(limit: u64, role: u8, s: &[u8], at: usize) -> bool
+    requires { ⌜ at + 16 ≤ length (now s) ⌝ }
+    ensures { λ r. ⌜ r ≡ isNameOf limit role (nameAt (now (s .entry)) at) (nameLenAt (now (s .entry)) at) ⌝ }
 {
     if role < 2 {
-        if name == 0 {
-            return len == 0;
-        }
-        return false;
+        return fixed::eight_in(s, at + 4) == 0;
     }
+    let name = fixed::four_in(s, at + 4);
+    let len = fixed::four_in(s, at + 8);
     if limit < name {
         return false;
     }
     len <= limit - name
 }
 
-// Whether Statistics gives the record of a static or regular column at at.
-fn is_given_column(limit: u64, s: &[u8], at: usize) -> bool
-    requires { ⌜ at + 16 ≤ length (now s) ⌝ }
-    ensures { λ r. ⌜ r ≡ given limit (now (s .entry)) at ⌝ }
+// Whether the record at at has the role and is one that Statistics gives.
+fn is_of(limit: u64, widths: &[u8; 35], role: u8, s: &[u8], at: usize) -> bool
+    requires { ⌜ (now widths ≡ allWidths) × (at + 16 ≤ length (now s)) ⌝ }
+    ensures { λ r. ⌜ r ≡ isOf limit role (now (s .entry)) at ⌝ }
 {
-    let role = s[at];
-    if is_kind_of(role, s[at + 1], s[at + 2], s[at + 3]) {
-        let name = fixed::big_endian(s, at + 4, 4, 0);
-        let len = fixed::big_endian(s, at + 8, 4, 0);
-        if is_name_of(limit, role, name, len) {
-            return fixed::big_endian(s, at + 12, 4, 0) == 0;
-        }
-        return false;
-    }
-    false
-}
-
-// Whether Statistics gives the record of a key or clustering column at at.
-fn is_given_key(limit: u64, s: &[u8], at: usize) -> bool
-    requires { ⌜ (at + 16 ≤ length (now s)) × (getD (now s) at 0 ≤ 1) ⌝ }
-    ensures { λ r. ⌜ r ≡ given limit (now (s .entry)) at ⌝ }
-{
-    if is_kind_of(s[at], s[at + 1], s[at + 2], s[at + 3]) {
-        if fixed::big_endian(s, at + 4, 4, 0) == 0 {
-            if fixed::big_endian(s, at + 8, 4, 0) == 0 {
-                return fixed::big_endian(s, at + 12, 4, 0) == 0;
+    if s[at] == role {
+        if is_kind_of(widths, role, s[at + 1], s[at + 2], s[at + 3]) {
+            if is_name_at(limit, role, s, at) {
+                return fixed::four_in(s, at + 12) == 0;
             }
         }
     }
     false
 }
 
-fn count_of(role: u8, c: Counts) -> u64
-    ensures { λ r. ⌜ r ≡ countOf role c ⌝ }
-{
-    if role == 0 {
-        return c.keys;
-    }
-    if role == 1 {
-        return c.clustering;
-    }
-    if role == 2 {
-        return c.statics;
-    }
-    c.regulars
-}
-
 // The most columns of a role.
-fn most_of(role: u8) -> u64
+fn most_of(role: u8) -> usize
     ensures { λ r. ⌜ r ≡ mostOf role ⌝ }
 {
     if role == 0 {
@@ -130,148 +158,65 @@ fn most_of(role: u8) -> u64
     63
 }
 
-// Whether a column of a later role is there.
-fn is_passed(role: u8, c: Counts) -> bool
-    ensures { λ r. ⌜ r ≡ isPassed role c ⌝ }
+// The lesser of two.
+fn lesser(a: usize, b: usize) -> usize
+    ensures { λ r. ⌜ r ≡ lesserOf a b ⌝ }
 {
-    if role == 1 {
-        if 0 < c.statics {
-            return true;
-        }
-        return 0 < c.regulars;
+    if a < b {
+        return a;
     }
-    if role == 2 {
-        return 0 < c.regulars;
-    }
-    false
+    b
 }
 
-// Whether the key stands first.
-fn is_first(role: u8, c: Counts) -> bool
-    ensures { λ r. ⌜ r ≡ isFirst role c ⌝ }
+// How many records of the role stand from place from on, one behind the other, of those that the role may have.
+fn run(limit: u64, widths: &[u8; 35], role: u8, s: &[u8], from: usize) -> usize
+    requires { ⌜ (now widths ≡ allWidths) × (from ≤ length (now s)) ⌝ }
+    ensures { λ r. ⌜ (r ≡ runOf limit role (now (s .entry)) (mostOf role) from) × (from + 16 * r ≤ length (now (s .entry))) ⌝ }
 {
-    if role == 0 {
-        return true;
-    }
-    0 < c.keys
-}
-
-// Whether a record of the role may follow those in c.
-fn in_turn(role: u8, c: Counts) -> bool
-    ensures { λ r. ⌜ r ≡ inTurn role c ⌝ }
-{
-    if is_first(role, c) {
-        if is_passed(role, c) {
-            return false;
-        }
-        return count_of(role, c) < most_of(role);
-    }
-    false
-}
-
-// One more of the role.
-fn with_one(role: u8, c: Counts) -> Counts
-    requires { ⌜ countOf role c < 63 ⌝ }
-    ensures { λ r. ⌜ r ≡ withOne role c ⌝ }
-{
-    if role == 0 {
-        return Counts {
-            keys: c.keys + 1,
-            clustering: c.clustering,
-            statics: c.statics,
-            regulars: c.regulars,
-        };
-    }
-    if role == 1 {
-        return Counts {
-            keys: c.keys,
-            clustering: c.clustering + 1,
-            statics: c.statics,
-            regulars: c.regulars,
-        };
-    }
-    if role == 2 {
-        return Counts {
-            keys: c.keys,
-            clustering: c.clustering,
-            statics: c.statics + 1,
-            regulars: c.regulars,
-        };
-    }
-    Counts {
-        keys: c.keys,
-        clustering: c.clustering,
-        statics: c.statics,
-        regulars: c.regulars + 1,
-    }
-}
-
-// The record at at, behind those counted in c. The two kinds of roles go apart: each then has few tests.
-fn read_record(limit: u64, s: &[u8], at: usize, c: Counts) -> Found
-    requires { ⌜ at ≤ length (now s) ⌝ }
-    ensures { λ r. ⌜ saidFound r ≡ recordAt limit c (now (s .entry)) at (length (now (s .entry))) ⌝ }
-{
-    if s.len() - at < 16 {
-        return Found::Bad {
-            fault: Fault::BadRecord,
-            place: at,
-        };
-    }
-    let role = s[at];
-    if 1 < role {
-        if is_given_column(limit, s, at) {
-            if in_turn(role, c) {
-                return Found::Records {
-                    counts: with_one(role, c),
-                    next: at + 16,
-                };
-            }
-        }
-    } else {
-        if is_given_key(limit, s, at) {
-            if in_turn(role, c) {
-                return Found::Records {
-                    counts: with_one(role, c),
-                    next: at + 16,
-                };
-            }
+    let most = lesser((s.len() - from) / 16, most_of(role));
+    let mut n: usize = 0;
+    while n < most {
+        if is_of(limit, widths, role, s, from + 16 * n) {
+            n += 1;
+        } else {
+            return n;
         }
     }
-    Found::Bad {
-        fault: Fault::BadRecord,
-        place: at,
-    }
+    n
 }
 
-// The records of a whole schema.
+// The records of a whole schema, role by role: each role's tests are then few, and its count stays in a local.
 fn read_records(limit: u64, s: &[u8]) -> Found
     ensures { λ r. ⌜ saidFound r ≡ schemaAt limit (now (s .entry)) ⌝ }
 {
-    if s.len() == 0 {
+    let widths = WIDTHS;
+    let keys = run(limit, &widths, 0, s, 0);
+    if keys == 0 {
         return Found::Bad {
             fault: Fault::BadRecord,
             place: 0,
         };
     }
-    let mut c = Counts {
-        keys: 0,
-        clustering: 0,
-        statics: 0,
-        regulars: 0,
-    };
-    let mut at: usize = 0;
-    while at < s.len() {
-        match read_record(limit, s, at, c) {
-            Found::Records { counts, next } => {
-                c = counts;
-                at = next;
-            }
-            Found::Bad { fault, place } => return Found::Bad { fault, place },
-        }
+    let clustering = run(limit, &widths, 1, s, 16);
+    let a = 16 + 16 * clustering;
+    let statics = run(limit, &widths, 2, s, a);
+    let b = a + 16 * statics;
+    let regulars = run(limit, &widths, 3, s, b);
+    let end = b + 16 * regulars;
+    if end < s.len() {
+        return Found::Bad {
+            fault: Fault::BadRecord,
+            place: end,
+        };
     }
     Found::Records {
-        counts: c,
-        next: at,
+        counts: Counts {
+            keys: 1,
+            clustering: clustering as u64,
+            statics: statics as u64,
+            regulars: regulars as u64,
+        },
+        next: end,
     }
 }
 

@@ -15,8 +15,8 @@ returns-2 : tie.Need-returns-2
 unfolding isKindOf
 returns-2 c = search (told, cases) depth 12
 
-width-requires : tie.Need-width-requires
-width-requires c κs = search needs
+width-in-requires : tie.Need-width-in-requires
+width-in-requires c κs = search needs
 
 returns-3 : tie.Need-returns-3
 unfolding isKindOf
@@ -28,4 +28,5 @@ returns-4 c = search (told, cases) depth 12
 
 pub is-kind-of-spec : {M : Type 1} → statement M
 is-kind-of-spec =
-    tie.close (tie.spec returns is-line-of-requires returns-2 width-requires returns-3 returns-4)
+    tie.close
+    (tie.spec returns is-line-of-requires returns-2 width-in-requires returns-3 returns-4)

@@ -1,6 +1,5 @@
-use Rattle.wire.proofs.Choose.{cases, told}
+use Rattle.wire.proofs.Choose.{cases}
 use Rattle.schema.specs.Records.{mostOf}
-use borrow.Author.Needs.{needs}
 use Rattle.schema.proofs.records.most_of.Statement.{statement}
 use Rattle.schema.proofs.records.most_of.Tie as tie
 

@@ -1,55 +1,68 @@
-use Prim.Native.Nat.{_-_}
-use lib.ListN.{length}
-use Rattle.schema.proofs.Loops.{Checking, checking}
+use mathlib.Core.Path.{refl}
+use Rattle.typetable.specs.Table.{lineOf, nth, noLine, table}
+use Rattle.schema.specs.Runs.{allWidths, eachBelow}
+use Rattle.schema.proofs.Whole.{whole}
 use borrow.Author.Needs.{needs}
 use Rattle.schema.proofs.records.read_records.Statement.{statement}
 use Rattle.schema.proofs.records.read_records.Tie as tie
 
-abbrev Inv-loop : tie.InvT-loop
-Inv-loop limit s c₀ at₀ c at = Checking limit s c at
+run-requires : tie.Need-run-requires
+unfolding allWidths eachBelow lineOf nth noLine table
+run-requires c κs = search (refl, needs)
 
-abbrev μ-loop : tie.MeasureT-loop
-μ-loop limit s c₀ at₀ c at = length s - at
+returns : tie.Need-returns
+returns c = search (whole, needs)
 
-returns : tie.Need-returns Inv-loop μ-loop
-returns c = search (checking, needs)
+run-requires-2 : tie.Need-run-requires-2
+unfolding allWidths eachBelow lineOf nth noLine table
+run-requires-2 c κs = search (refl, needs)
 
-loop-holds : tie.Need-loop-holds Inv-loop μ-loop
-loop-holds c = search (checking, needs)
+mul-a : tie.Need-mul-a
+mul-a c = search needs
 
-read-record-requires : tie.Need-read-record-requires Inv-loop μ-loop
-read-record-requires c κs = search (checking, needs)
+add-a : tie.Need-add-a
+add-a c = search needs
 
-enum-known-counts : tie.Need-enum-known-counts Inv-loop μ-loop
-enum-known-counts c = search (checking, needs)
+run-requires-3 : tie.Need-run-requires-3
+unfolding allWidths eachBelow lineOf nth noLine table
+run-requires-3 c κs = search (refl, needs)
 
-loop-less : tie.Need-loop-less Inv-loop μ-loop
-loop-less c = search (checking, needs)
+mul-b : tie.Need-mul-b
+mul-b c = search needs
 
-loop-again : tie.Need-loop-again Inv-loop μ-loop
-loop-again c = search (checking, needs)
+add-b : tie.Need-add-b
+add-b c = search needs
 
-enum-known-fault : tie.Need-enum-known-fault Inv-loop μ-loop
-enum-known-fault c = search (checking, needs)
+run-requires-4 : tie.Need-run-requires-4
+unfolding allWidths eachBelow lineOf nth noLine table
+run-requires-4 c κs = search (refl, needs)
 
-returns-2 : tie.Need-returns-2 Inv-loop μ-loop
-returns-2 c = search (checking, needs)
+mul-end : tie.Need-mul-end
+mul-end c = search needs
 
-returns-3 : tie.Need-returns-3 Inv-loop μ-loop
-returns-3 c = search (checking, needs)
+add-end : tie.Need-add-end
+add-end c = search needs
+
+returns-2 : tie.Need-returns-2
+returns-2 c = search (whole, needs)
+
+returns-3 : tie.Need-returns-3
+returns-3 c = search (whole, needs)
 
 pub read-records-spec : {M : Type 1} → statement M
 read-records-spec =
     tie.close
     (tie.spec
-    Inv-loop
-    μ-loop
+    run-requires
     returns
-    loop-holds
-    read-record-requires
-    enum-known-counts
-    loop-less
-    loop-again
-    enum-known-fault
+    run-requires-2
+    mul-a
+    add-a
+    run-requires-3
+    mul-b
+    add-b
+    run-requires-4
+    mul-end
+    add-end
     returns-2
     returns-3)
