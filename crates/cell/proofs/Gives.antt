@@ -10,13 +10,13 @@ use lib.ListN.{length}
 use Rattle.wire.specs.Choose.{pick}
 use Rattle.wire.specs.Got.{Got}
 use Rattle.wire.proofs.Gives.{Gives, gives-got, gives-bad, gives-on, gives-pick}
-use Rattle.cell.specs.Fields.{span, byteAt}
+use Rattle.field.specs.Fields.{span, byteAt}
 use Rattle.cell.specs.Cells.{cell, badFlags, flagsAt, lastAt, expiringAt, contentAt, timedAt, cellAt}
 use Rattle.wire.specs.declared.times.Bases.{Bases}
-use Rattle.cell.specs.declared.fields.Span.{Span}
+use Rattle.field.specs.declared.fields.Span.{Span}
 use Rattle.cell.specs.declared.cells.Times.{Times}
 use Rattle.cell.specs.declared.cells.Cell.{Cell}
-use Rattle.cell.proofs.Ranges.{Goes, Moves, goes-none, goes-goes, moves-on, moves-goes, TimestampIn, LocalIn, TTLIn, ValueIn, value-none, byte-gives, in-gives, value-gives}
+use Rattle.field.proofs.Ranges.{Goes, Moves, goes-none, goes-goes, moves-on, moves-goes, TimestampIn, LocalIn, TTLIn, ValueIn, value-none, byte-gives, in-gives, value-gives}
 
 -- a row's times in range: an expiry only with a timestamp, and what is absent is 0
 pub record TimesIn (b : Bases) (row : Times) : Type 0 where

@@ -8,7 +8,7 @@ use Rattle.wire.specs.Choose.{pick}
 use Rattle.wire.specs.Got.{Got, got, bad, on}
 use Rattle.wire.specs.declared.times.Bases.{Bases}
 use Rattle.wire.proofs.Choose.{pick-no}
-use Rattle.cell.specs.Fields.{timestampAt, localAt, ttlAt}
+use Rattle.field.specs.Fields.{timestampAt, localAt, ttlAt}
 use Rattle.cell.specs.Cells.{lastAt, expiringAt, contentAt, timedAt, timeAt, ownAt, lastingAt}
 use Rattle.cell.specs.declared.cells.Times.{Times}
 use Rattle.cell.specs.declared.cells.Cell.{Cell}

@@ -7,7 +7,7 @@ use Rattle.wire.specs.Got.{Got, got, bad, on}
 use Rattle.fixed.specs.BigEndian.{bigEndian}
 use Rattle.varints.specs.Varints.{leading, low, varintAt}
 use Rattle.wire.specs.declared.refusal.Fault.the-variants.{PastEnd, BadFlags, OutOfRange}
-use Rattle.cell.specs.Fields.{span, byteAt, inAt, deletionAt, deletion, variableAt, valueAt, timestampAt}
+use Rattle.field.specs.Fields.{span, byteAt, inAt, deletionAt, deletion, variableAt, valueAt, timestampAt}
 use Rattle.cell.specs.Cells.{cell, badFlags, flagsAt, lastAt, expiringAt, contentAt, timedAt, cellAt}
 use Rattle.wire.specs.declared.times.Bases.{Bases}
 use Rattle.cell.specs.declared.cells.Times.{Times}

@@ -7,9 +7,9 @@ use lib.Dec.{ltb, eqb}
 use Rattle.wire.specs.Choose.{pick}
 use Rattle.wire.specs.Got.{Got, got, bad, on, Reader, _>>=_, ret, when}
 use Rattle.wire.specs.declared.refusal.Fault.the-variants.{BadFlags}
-use Rattle.cell.specs.Fields.{span, byteAt, inAt, timestampAt, localAt, ttlAt, valueAt}
+use Rattle.field.specs.Fields.{span, byteAt, inAt, timestampAt, localAt, ttlAt, valueAt}
 use Rattle.wire.specs.declared.times.Bases.{Bases}
-use Rattle.cell.specs.declared.fields.Span.{Span}
+use Rattle.field.specs.declared.fields.Span.{Span}
 use Rattle.cell.specs.declared.cells.Times.{Times}
 use Rattle.cell.specs.declared.cells.Cell.{Cell}
 use Rattle.cell.specs.declared.cells.Lasting.{Lasting}

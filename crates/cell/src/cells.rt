@@ -2,9 +2,9 @@
 ghost use mathlib.Core.Path.{_≡_};
 ghost use Rattle.wire.specs.Got.{saidNum};
 ghost use Rattle.cell.specs.Cells.{badFlags, flagsAt, lastAt, ownAt, lastingAt, contentAt, timeAt, timedAt, cellAt, saidLasting, saidFound};
-use crate::fields;
-use crate::fields::Part;
-use crate::fields::Span;
+use field::fields;
+use field::fields::Part;
+use field::fields::Span;
 use wire::number::Num;
 use wire::refusal::Fault;
 use wire::times::Bases;

@@ -9,7 +9,7 @@ use Rattle.wire.specs.Got.{Got, got, on, Took}
 use Rattle.wire.specs.declared.times.Bases.{Bases}
 use Rattle.wire.proofs.Choose.{pick-yes, pick-no}
 use Rattle.wire.proofs.Took.{took-first, took-then, took-yes, took-no, took-past, past, on-again}
-use Rattle.cell.specs.Fields.{byteAt, timestampAt, localAt, ttlAt, valueAt}
+use Rattle.field.specs.Fields.{byteAt, timestampAt, localAt, ttlAt, valueAt}
 use Rattle.cell.specs.Cells.{flagsAt, timeAt, ownAt, lastingAt, lastAt, contentAt, timedAt, cellAt}
 use Rattle.cell.specs.declared.cells.Times.{Times}
 use Rattle.cell.proofs.Parts.{timed-is, content-is}

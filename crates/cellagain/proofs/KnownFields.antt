@@ -13,7 +13,7 @@ use Rattle.wire.proofs.Gives.{gives-is}
 use Rattle.wire.proofs.Took.{took-first, took-then, took-yes, took-no, took-past, past, on-again}
 use Rattle.varints.specs.Varints.{varintAt}
 use Rattle.varints.proofs.Varints.{varint-ends}
-use Rattle.cell.specs.Fields.{span, byteAt, inAt, variableAt, valueAt}
+use Rattle.field.specs.Fields.{span, byteAt, inAt, variableAt, valueAt}
 
 -- ---- a byte
 module _ (s : List ℕ) (at end : ℕ) (t : Took (byteAt s at end)) where

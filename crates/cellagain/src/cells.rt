@@ -5,7 +5,7 @@ ghost use Rattle.cell.specs.Cells.{timeAt, ownAt, lastingAt, lastAt, contentAt,
 use crate::fields;
 use cell::cells::Cell;
 use cell::cells::Times;
-use cell::fields::Span;
+use field::fields::Span;
 use wire::number::Known;
 use wire::times::Bases;
 
@@ -159,6 +159,7 @@ fn known_content(
 }
 
 // The cell at at, before end, of a column of the width, in a row of these times.
+// Internal: for code that has read the same before.
 pub fn known_cell(s: &[u8], at: usize, end: usize, width: u8, b: Bases, row: Times) -> Seen
     requires { ⌜ Took (cellAt b row width (now s) at end) ⌝ }
     ensures { λ r. ⌜ got (r .cell) (r .next) ≡ cellAt b row width (now (s .entry)) at end ⌝ }

@@ -1,8 +1,8 @@
 // Fields that stand in rows and cells.
 ghost use mathlib.Core.Path.{_≡_};
 ghost use Rattle.wire.specs.Got.{got, Took};
-ghost use Rattle.cell.specs.Fields.{byteAt, inAt, variableAt, valueAt};
-use cell::fields::Span;
+ghost use Rattle.field.specs.Fields.{byteAt, inAt, variableAt, valueAt};
+use field::fields::Span;
 use wire::number::Known;
 
 // A value, and the place after it.
@@ -12,7 +12,7 @@ pub struct Lain {
 }
 
 // The byte at at, before end.
-// Internal, as all functions here: for code that has read the same before.
+// Internal: for code that has read the same before.
 pub fn known_byte(s: &[u8], at: usize, end: usize) -> Known
     requires { ⌜ Took (byteAt (now s) at end) ⌝ }
     ensures { λ r. ⌜ got (r .value) (r .next) ≡ byteAt (now (s .entry)) at end ⌝ }
@@ -26,6 +26,7 @@ pub fn known_byte(s: &[u8], at: usize, end: usize) -> Known
 }
 
 // A base and the varint at at, from lo to hi.
+// Internal: as above.
 pub fn known_sum(s: &[u8], at: usize, end: usize, lo: u64, hi: u64, base: u64) -> Known
     requires { ⌜ Took (inAt lo hi base (now s) at end) ⌝ }
     ensures { λ r. ⌜ got (r .value) (r .next) ≡ inAt lo hi base (now (s .entry)) at end ⌝ }
@@ -60,6 +61,7 @@ fn known_variable(s: &[u8], at: usize, end: usize) -> Lain
 }
 
 // A value of the width, or (255) after its length.
+// Internal: as above.
 pub fn known_value(s: &[u8], at: usize, end: usize, width: u8) -> Lain
     requires { ⌜ Took (valueAt width (now s) at end) ⌝ }
     ensures { λ r. ⌜ got (r .value) (r .next) ≡ valueAt width (now (s .entry)) at end ⌝ }

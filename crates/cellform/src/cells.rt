@@ -10,8 +10,8 @@ ghost use Rattle.cellform.specs.Sizes.{contentSize, cellSize};
 use crate::values;
 use cell::cells::Cell;
 use cell::cells::Times;
-use cell::fields::Span;
 use deltas::numbers;
+use field::fields::Span;
 use wire::times::Bases;
 
 // 1 where the row has the cell's timestamp.

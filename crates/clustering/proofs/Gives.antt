@@ -12,8 +12,8 @@ use Rattle.wire.specs.Got.{Got, got, bad}
 use Rattle.varints.specs.Varints.{varintAt}
 use Rattle.wire.proofs.Gives.{Gives, gives-got, gives-bad, gives-on, gives-pick}
 use Rattle.wire.proofs.RoundTrip.{Reads}
-use Rattle.cell.specs.declared.fields.Span.{Span}
-use Rattle.cell.proofs.Ranges.{Goes, Moves, goes-none, goes-goes, moves-on, ValueIn, value-none, value-gives, varint-moves}
+use Rattle.field.specs.declared.fields.Span.{Span}
+use Rattle.field.proofs.Ranges.{Goes, Moves, goes-none, goes-goes, moves-on, ValueIn, value-none, value-gives, varint-moves}
 use Rattle.clustering.specs.Prefixes.{badHeader, headerAt, clusteringAt, valuesAt, skipped, prefixAt}
 use Rattle.clustering.specs.Sizes.{sizesAt}
 use Rattle.clustering.specs.declared.prefixes.Prefix.{Prefix}

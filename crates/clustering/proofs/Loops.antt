@@ -14,11 +14,11 @@ use Rattle.wire.specs.declared.refusal.Fault.{Fault}
 use Rattle.wire.specs.declared.number.Num.{Num}
 use Rattle.wire.specs.Choose.{pick}
 use Rattle.wire.proofs.Choose.{pick-yes, pick-no}
-use Rattle.cell.specs.Fields.{saidPart}
-use Rattle.cell.specs.declared.fields.Span.{Span}
-use Rattle.cell.specs.declared.fields.Part.{Part}
-use Rattle.cell.specs.declared.fields.Part.the-variants.{Lies, Refused as part-refused}
-use Rattle.cell.proofs.Said.{on-part, on-part-bad}
+use Rattle.field.specs.Fields.{saidPart}
+use Rattle.field.specs.declared.fields.Span.{Span}
+use Rattle.field.specs.declared.fields.Part.{Part}
+use Rattle.field.specs.declared.fields.Part.the-variants.{Lies, Refused as part-refused}
+use Rattle.field.proofs.Said.{on-part, on-part-bad}
 use Rattle.clustering.specs.Prefixes.{badHeader, headerAt, clusteringAt, valuesAt, widthsAt, skipped, saidSkipped}
 use Rattle.clustering.specs.declared.prefixes.Skipped.{Skipped}
 use Rattle.clustering.specs.declared.prefixes.Skipped.the-variants.{To, Refused as skip-refused}

@@ -7,7 +7,7 @@ use Rattle.wire.specs.Got.{Got, got, bad, on}
 use Rattle.fixed.specs.BigEndian.{bigEndian}
 use Rattle.varints.specs.Varints.{leading, low, varintAt}
 use Rattle.wire.specs.declared.refusal.Fault.the-variants.{PastEnd, BadFlags}
-use Rattle.cell.specs.Fields.{span, variableAt, valueAt}
+use Rattle.field.specs.Fields.{span, variableAt, valueAt}
 use Rattle.clustering.specs.Prefixes.{badHeader, headerAt, clusteringAt, valuesAt, skipped, prefixAt, widthsAt}
 use Rattle.clustering.specs.Sizes.{sizesAt}
 

@@ -8,8 +8,8 @@ use Rattle.wire.specs.Choose.{pick}
 use Rattle.wire.specs.Got.{Got, got, bad, on, Reader, _>>=_, ret, when}
 use Rattle.varints.specs.Varints.{varintAt}
 use Rattle.wire.specs.declared.refusal.Fault.the-variants.{BadFlags}
-use Rattle.cell.specs.Fields.{span, valueAt}
-use Rattle.cell.specs.declared.fields.Span.{Span}
+use Rattle.field.specs.Fields.{span, valueAt}
+use Rattle.field.specs.declared.fields.Span.{Span}
 use Rattle.clustering.specs.declared.prefixes.Prefix.{Prefix}
 use Rattle.clustering.specs.declared.prefixes.Prefixed.{Prefixed}
 use Rattle.clustering.specs.declared.prefixes.Prefixed.the-variants.{Read, Refused as prefix-refused}

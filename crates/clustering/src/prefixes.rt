@@ -3,11 +3,11 @@ ghost use mathlib.Core.Path.{_≡_};
 ghost use Prim.Native.Nat.{_+_, _*_, _≤_};
 ghost use lib.ListN.{length};
 ghost use Rattle.wire.specs.Got.{saidNum};
-ghost use Rattle.cell.specs.Fields.{saidPart};
+ghost use Rattle.field.specs.Fields.{saidPart};
 ghost use Rattle.clustering.specs.Prefixes.{badHeader, headerAt, clusteringAt, valuesAt, prefixAt, widthsAt, skipped, saidSkipped, saidPrefixed};
-use cell::fields;
-use cell::fields::Part;
-use cell::fields::Span;
+use field::fields;
+use field::fields::Part;
+use field::fields::Span;
 use wire::number::Num;
 use wire::refusal::Fault;
 

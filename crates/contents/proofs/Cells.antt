@@ -20,7 +20,7 @@ use Rattle.wire.specs.declared.refusal.Fault.the-variants.{LeftOver}
 use Rattle.wire.specs.declared.refusal.Slice.the-variants.{Data}
 use Rattle.wire.specs.declared.times.Bases.{Bases}
 use Rattle.cell.specs.Cells.{cellAt}
-use Rattle.cell.specs.declared.fields.Deletion.{Deletion}
+use Rattle.field.specs.declared.fields.Deletion.{Deletion}
 use Rattle.cell.specs.declared.cells.Times.{Times}
 use Rattle.cell.specs.declared.cells.Cell.{Cell}
 use Rattle.cell.proofs.Gives.{cell-gives}

@@ -13,8 +13,8 @@ use Rattle.wire.proofs.Gives.{Gives, gives-got, gives-bad, gives-pick}
 use Rattle.wire.specs.declared.refusal.Fault.the-variants.{PastEnd, OutOfTurn}
 use Rattle.wire.specs.declared.refusal.Slice.the-variants.{Data}
 use Rattle.wire.specs.declared.times.Bases.{Bases}
-use Rattle.cell.specs.Fields.{byteAt, live}
-use Rattle.cell.specs.declared.fields.Deletion.{Deletion}
+use Rattle.field.specs.Fields.{byteAt, live}
+use Rattle.field.specs.declared.fields.Deletion.{Deletion}
 use Rattle.schema.specs.declared.records.Counts.{Counts}
 use Rattle.items.specs.Items.{endItem}
 use Rattle.walk.specs.Cursors.{atItems}

@@ -16,12 +16,12 @@ use Rattle.wire.proofs.Choose.{pick-yes, pick-ind}
 use Rattle.wire.proofs.Gives.{Gives, gives-got, gives-bad, gives-on, gives-pick, gives-bind}
 use Rattle.wire.specs.declared.times.Bases.{Bases}
 use Rattle.wire.specs.Times.{biased}
-use Rattle.cell.specs.Fields.{live, byteAt}
-use Rattle.cell.specs.declared.fields.Deletion.{Deletion}
-use Rattle.cell.specs.declared.fields.Span.{Span}
+use Rattle.field.specs.Fields.{live, byteAt}
+use Rattle.field.specs.declared.fields.Deletion.{Deletion}
+use Rattle.field.specs.declared.fields.Span.{Span}
 use Rattle.cell.specs.declared.cells.Times.{Times}
 use Rattle.cell.specs.declared.cells.Cell.{Cell}
-use Rattle.cell.proofs.Ranges.{Goes, Moves, goes-none, goes-goes, moves-on, moves-moves, fixed-moves, byte-gives}
+use Rattle.field.proofs.Ranges.{Goes, Moves, goes-none, goes-goes, moves-on, moves-moves, fixed-moves, byte-gives}
 use Rattle.cell.proofs.Gives.{CellOk, cell-gives}
 use Rattle.clustering.proofs.Gives.{ValuesIn, values-give}
 use Rattle.row.specs.Flags.{extendedOf, extendedAt}

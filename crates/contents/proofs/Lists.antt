@@ -12,7 +12,7 @@ use Rattle.wire.specs.Got.{Got, got, bad, on}
 use Rattle.wire.specs.Refusals.{taken}
 use Rattle.wire.proofs.Choose.{pick-yes, pick-no}
 use Rattle.wire.specs.declared.times.Bases.{Bases}
-use Rattle.cell.specs.Fields.{live}
+use Rattle.field.specs.Fields.{live}
 use Rattle.partition.specs.Partitions.{partitionAt}
 use Rattle.partition.specs.declared.partitions.Partition.{Partition as Header}
 use Rattle.schema.specs.declared.records.Counts.{Counts}

@@ -9,8 +9,8 @@ use lib.ListN.{length, take}
 use Rattle.wire.specs.Choose.{pick, bind}
 use Rattle.wire.specs.Got.{got, on}
 use Rattle.wire.specs.declared.times.Bases.{Bases}
-use Rattle.cell.specs.declared.fields.Deletion.{Deletion}
-use Rattle.cell.specs.declared.fields.Span.{Span}
+use Rattle.field.specs.declared.fields.Deletion.{Deletion}
+use Rattle.field.specs.declared.fields.Span.{Span}
 use Rattle.clustering.specs.Prefixes.{badHeader, valuesAt, widthsAt}
 use Rattle.row.specs.Bodies.{times}
 use Rattle.marker.specs.Markers.{markerAt, openAfter}

@@ -16,8 +16,8 @@ use Rattle.wire.proofs.Choose.{pick-yes, pick-no}
 use Rattle.wire.specs.declared.refusal.Fault.the-variants.{LeftOver}
 use Rattle.wire.specs.declared.refusal.Slice.the-variants.{Data}
 use Rattle.wire.specs.declared.times.Bases.{Bases}
-use Rattle.cell.specs.declared.fields.Deletion.{Deletion}
-use Rattle.cell.specs.declared.fields.Span.{Span}
+use Rattle.field.specs.declared.fields.Deletion.{Deletion}
+use Rattle.field.specs.declared.fields.Span.{Span}
 use Rattle.cell.specs.declared.cells.Cell.{Cell}
 use Rattle.clustering.specs.Prefixes.{badHeader, valuesAt, widthsAt}
 use Rattle.row.specs.Bodies.{times, columns}

@@ -9,8 +9,8 @@ use Rattle.wire.specs.Choose.{pick}
 use Rattle.wire.specs.Got.{Got, got, bad, on}
 use Rattle.wire.specs.declared.refusal.Fault.the-variants.{PastEnd}
 use Rattle.wire.specs.declared.times.Bases.{Bases}
-use Rattle.cell.specs.Fields.{byteAt}
-use Rattle.cell.specs.declared.fields.Deletion.{Deletion}
+use Rattle.field.specs.Fields.{byteAt}
+use Rattle.field.specs.declared.fields.Deletion.{Deletion}
 use Rattle.contents.specs.Contents.{Widths, Entry, Contents, openBehind, closedAt, entryAt, entriesIn, entriesAt, wholeAt, partitionsIn, contentsAt}
 use Rattle.contents.proofs.Gives.{byte-none, entry-gives, entry-moves, whole-gives}
 

@@ -9,8 +9,8 @@ use lib.Pow.{shr-shr}
 use Rattle.wire.specs.Choose.{pick, bind}
 use Rattle.wire.specs.Got.{Got, got, on}
 use Rattle.wire.specs.declared.times.Bases.{Bases}
-use Rattle.cell.specs.declared.fields.Deletion.{Deletion}
-use Rattle.cell.specs.declared.fields.Span.{Span}
+use Rattle.field.specs.declared.fields.Deletion.{Deletion}
+use Rattle.field.specs.declared.fields.Span.{Span}
 use Rattle.cell.specs.declared.cells.Times.{Times}
 use Rattle.clustering.specs.Prefixes.{clusteringAt, valuesAt, widthsAt}
 use Rattle.clustering.proofs.Gives.{clustering-gives, values-give}

@@ -11,7 +11,7 @@ use Rattle.wire.specs.Times.{biased}
 use Rattle.wire.specs.declared.refusal.Fault.the-variants.{PastEnd, LeftOver}
 use Rattle.wire.specs.declared.refusal.Slice.the-variants.{Data}
 use Rattle.wire.specs.declared.times.Bases.{Bases}
-use Rattle.cell.specs.Fields.{byteAt, inAt, deletionAt, variableAt, valueAt}
+use Rattle.field.specs.Fields.{byteAt, inAt, deletionAt, variableAt, valueAt}
 use Rattle.cell.specs.Cells.{badFlags, flagsAt, lastAt, expiringAt, contentAt, timedAt, cellAt}
 use Rattle.clustering.specs.Prefixes.{badHeader, headerAt, clusteringAt, valuesAt, skipped, prefixAt, widthsAt}
 use Rattle.clustering.specs.Sizes.{sizesAt}

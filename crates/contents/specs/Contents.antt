@@ -11,10 +11,10 @@ use Rattle.wire.specs.Refusals.{Outcome, taken, refused}
 use Rattle.wire.specs.declared.refusal.Fault.the-variants.{PastEnd, OutOfTurn}
 use Rattle.wire.specs.declared.refusal.Slice.the-variants.{Data}
 use Rattle.wire.specs.declared.times.Bases.{Bases}
-use Rattle.cell.specs.Fields.{live, byteAt}
+use Rattle.field.specs.Fields.{live, byteAt}
 use Rattle.cell.specs.Cells.{cellAt}
-use Rattle.cell.specs.declared.fields.Deletion.{Deletion}
-use Rattle.cell.specs.declared.fields.Span.{Span}
+use Rattle.field.specs.declared.fields.Deletion.{Deletion}
+use Rattle.field.specs.declared.fields.Span.{Span}
 use Rattle.cell.specs.declared.cells.Times.{Times}
 use Rattle.cell.specs.declared.cells.Cell.{Cell}
 use Rattle.clustering.specs.Prefixes.{valuesAt, widthsAt}

@@ -12,8 +12,8 @@ use Rattle.wire.specs.declared.number.Num.the-variants.{Number, Refused as num-
 use Rattle.wire.specs.declared.times.Bases.{Bases}
 use Rattle.wire.proofs.Choose.{pick-yes, pick-no}
 use Rattle.wire.proofs.Said.{num-got}
-use Rattle.cell.specs.Fields.{live}
-use Rattle.cell.proofs.Ranges.{Moves}
+use Rattle.field.specs.Fields.{live}
+use Rattle.field.proofs.Ranges.{Moves}
 use Rattle.partition.specs.Partitions.{partitionAt, saidFound}
 use Rattle.partition.specs.declared.partitions.Partition.{Partition}
 use Rattle.partition.specs.declared.partitions.Found.{Found}

@@ -16,7 +16,7 @@ use Rattle.wire.specs.declared.number.Num.the-variants.{Refused as num-refused}
 use Rattle.wire.specs.declared.times.Bases.{Bases}
 use Rattle.wire.proofs.Choose.{pick-yes, pick-no}
 use Rattle.wire.proofs.Gives.{gives-is}
-use Rattle.cell.specs.declared.fields.Span.{Span}
+use Rattle.field.specs.declared.fields.Span.{Span}
 use Rattle.cell.specs.declared.cells.Cell.{Cell}
 use Rattle.clustering.specs.Prefixes.{valuesAt, widthsAt}
 use Rattle.clustering.proofs.Loops.{widths-count}

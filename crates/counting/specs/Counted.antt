@@ -5,7 +5,7 @@ use mathlib.Core.Option.{Option}
 use lib.ListN.{length}
 use Rattle.wire.specs.Got.{Got, got, bad, _>>=_, filled}
 use Rattle.wire.specs.declared.times.Bases.{Bases}
-use Rattle.cell.specs.declared.fields.Deletion.{Deletion}
+use Rattle.field.specs.declared.fields.Deletion.{Deletion}
 use Rattle.cell.specs.declared.cells.Times.{Times}
 use Rattle.cell.specs.declared.cells.Cell.{Cell}
 use Rattle.contents.specs.Contents.{Entry, Contents, openBehind, cellsAt, cellsListed, entryListed, entriesListed, listed}

@@ -29,7 +29,7 @@ use Rattle.statistics.specs.Header.{countAt, isNamed, nameAt, typedAt, namedAt,
 use Rattle.statistics.specs.Header.{headerAt as statisticsHeaderAt}
 use Rattle.statistics.specs.Statistics.{entry0At, entry3At, forwardAt, backwardAt, fileAt}
 use Rattle.statistics.specs.Statistics.{entriesAt as statisticsEntriesAt}
-use Rattle.cell.specs.Fields.{byteAt, inAt, deletionAt, variableAt, valueAt}
+use Rattle.field.specs.Fields.{byteAt, inAt, deletionAt, variableAt, valueAt}
 use Rattle.cell.specs.Cells.{badFlags, flagsAt, lastAt, expiringAt, contentAt, timedAt, cellAt}
 use Rattle.clustering.specs.Prefixes.{badHeader, headerAt, clusteringAt, valuesAt, skipped, prefixAt, widthsAt}
 use Rattle.clustering.specs.Sizes.{sizesAt}

@@ -11,7 +11,7 @@ use Rattle.wire.specs.Got.{Got, got, bad}
 use Rattle.wire.specs.declared.times.Bases.{Bases}
 use Rattle.wire.proofs.Choose.{pick-yes, pick-no}
 use Rattle.wire.proofs.Gives.{Gives, gives-got, gives-bad, gives-on, gives-pick}
-use Rattle.cell.specs.declared.fields.Deletion.{Deletion}
+use Rattle.field.specs.declared.fields.Deletion.{Deletion}
 use Rattle.turns.specs.Turns.{badKind}
 use Rattle.items.specs.declared.Item.{Item}
 use Rattle.contents.specs.Contents.{Widths, widthsOf, Entry}

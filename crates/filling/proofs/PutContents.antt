@@ -11,8 +11,8 @@ use Rattle.wire.specs.declared.times.Bases.{Bases}
 use Rattle.wire.proofs.Choose.{pick-yes, pick-no}
 use Rattle.wire.proofs.Gives.{Gives, gives-on}
 use Rattle.wire.proofs.Puts.{room-left, room-right, puts-then}
-use Rattle.cell.specs.Fields.{live, span}
-use Rattle.cell.specs.declared.fields.Deletion.{Deletion}
+use Rattle.field.specs.Fields.{live, span}
+use Rattle.field.specs.declared.fields.Deletion.{Deletion}
 use Rattle.partition.specs.declared.partitions.Partition.{Partition}
 use Rattle.schema.specs.declared.records.Counts.{Counts}
 use Rattle.items.specs.declared.Item.{Item}

@@ -11,8 +11,8 @@ use Rattle.wire.specs.Got.{Got, got, on}
 use Rattle.wire.specs.Store.{Room, Puts}
 use Rattle.wire.specs.declared.times.Bases.{Bases}
 use Rattle.wire.proofs.Choose.{pick-yes, pick-no}
-use Rattle.cell.specs.Fields.{live}
-use Rattle.cell.specs.declared.fields.Deletion.{Deletion}
+use Rattle.field.specs.Fields.{live}
+use Rattle.field.specs.declared.fields.Deletion.{Deletion}
 use Rattle.items.specs.declared.Item.{Item}
 use Rattle.contents.specs.Contents.{Widths, widthsOf, Entry, openBehind}
 use Rattle.contents.proofs.Follows.{Parted, parted}

@@ -10,7 +10,7 @@ use lib.ListN.{length, getD}
 use Rattle.wire.specs.Store.{shown}
 use Rattle.wire.specs.declared.times.Bases.{Bases}
 use Rattle.wire.proofs.Gives.{Gives, gives-got, gives-on, gives-pick}
-use Rattle.cell.specs.declared.fields.Span.{Span}
+use Rattle.field.specs.declared.fields.Span.{Span}
 use Rattle.cell.specs.declared.cells.Times.{Times}
 use Rattle.cell.specs.declared.cells.Cell.{Cell}
 use Rattle.clustering.specs.Prefixes.{widthsAt}

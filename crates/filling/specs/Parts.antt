@@ -10,8 +10,8 @@ use Rattle.wire.specs.Choose.{pick}
 use Rattle.wire.specs.Got.{Got, got, bad, on, Reader}
 use Rattle.wire.specs.Store.{Room, Puts}
 use Rattle.wire.specs.declared.times.Bases.{Bases}
-use Rattle.cell.specs.Fields.{live}
-use Rattle.cell.specs.declared.fields.Deletion.{Deletion}
+use Rattle.field.specs.Fields.{live}
+use Rattle.field.specs.declared.fields.Deletion.{Deletion}
 use Rattle.cell.specs.declared.cells.Cell.{Cell}
 use Rattle.cell.specs.declared.cells.Times.{Times}
 use Rattle.items.specs.declared.Item.{Item}

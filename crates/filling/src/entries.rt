@@ -10,7 +10,7 @@ ghost use Rattle.taken.specs.Entries.{takenCells};
 ghost use Rattle.storing.specs.Again.{ValuesThere, prefixAgain, Bits};
 ghost use Rattle.filling.specs.Parts.{headOf, boundOf, staticAgain, rowAgain, markerAgain, plainWritten, entryWritten, Fitting, PutsTo};
 use cell::cells::Times;
-use cell::fields::Deletion;
+use field::fields::Deletion;
 use lengths::ahead;
 use lengths::parts::Celled;
 use lengths::parts::Clustered;

@@ -14,11 +14,11 @@ use Rattle.wire.specs.declared.times.Bases.{Bases}
 use Rattle.wire.proofs.Choose.{pick-ind}
 use Rattle.wire.proofs.RoundTrip.{Reads, reads-got, reads-on, reads-at, reads-yes, reads-no, reads-to}
 use Rattle.wire.proofs.Stands.{Stands, stands-left, stands-right}
-use Rattle.cell.specs.Fields.{span}
+use Rattle.field.specs.Fields.{span}
 use Rattle.cell.specs.Cells.{cell, badFlags, flagsAt, lastAt, expiringAt, contentAt, timedAt, cellAt}
 use Rattle.cell.specs.declared.cells.Times.{Times}
 use Rattle.cell.specs.declared.cells.Cell.{Cell}
-use Rattle.cell.proofs.Ranges.{TimestampIn, LocalIn, TTLIn}
+use Rattle.field.proofs.Ranges.{TimestampIn, LocalIn, TTLIn}
 use Rattle.forms.specs.Views.{CellView, showCell}
 use Rattle.forms.specs.Cells.{sameTime, sameExpiry, noValue, kindBits, cellFlags, timestampBytes, ttlBytes, expiryBytes, fieldBytes, valueBytes, lastBytes, tailBytes, cellBytes, cellForm}
 use Rattle.forms.specs.Fits.{ValueFits, CellFits}

@@ -15,7 +15,7 @@ use Rattle.wire.proofs.Choose.{pick-ind}
 use Rattle.wire.proofs.RoundTrip.{Reads, reads-got, reads-on, reads-at, reads-yes, reads-no, reads-to}
 use Rattle.wire.proofs.Stands.{Stands, stands-left, stands-right}
 use Rattle.varints.proofs.Varints.{varint-back}
-use Rattle.cell.specs.declared.fields.Span.{Span}
+use Rattle.field.specs.declared.fields.Span.{Span}
 use Rattle.clustering.specs.Prefixes.{badHeader, headerAt, clusteringAt, valuesAt, skipped, prefixAt}
 use Rattle.forms.specs.Views.{showValue, showValues}
 use Rattle.forms.specs.Cells.{fieldBytes}

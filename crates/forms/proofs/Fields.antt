@@ -15,10 +15,10 @@ use Rattle.wire.specs.declared.times.Bases.{Bases}
 use Rattle.wire.proofs.RoundTrip.{Reads, reads-got, reads-on, reads-at, reads-yes, reads-no, reads-to}
 use Rattle.wire.proofs.Stands.{Stands, stands-left, stands-right, stands-byte, stands-part}
 use Rattle.varints.proofs.Varints.{varint-back}
-use Rattle.cell.specs.Fields.{span, deletion, byteAt, inAt, deletionAt, variableAt, valueAt}
-use Rattle.cell.specs.declared.fields.Deletion.{Deletion}
-use Rattle.cell.specs.declared.fields.Span.{Span}
-use Rattle.cell.proofs.Ranges.{In, TimestampIn, LocalIn, TTLIn, DeletionIn}
+use Rattle.field.specs.Fields.{span, deletion, byteAt, inAt, deletionAt, variableAt, valueAt}
+use Rattle.field.specs.declared.fields.Deletion.{Deletion}
+use Rattle.field.specs.declared.fields.Span.{Span}
+use Rattle.field.proofs.Ranges.{In, TimestampIn, LocalIn, TTLIn, DeletionIn}
 use Rattle.forms.specs.Views.{showValue}
 use Rattle.forms.specs.Cells.{lengthBytes, fieldBytes}
 use Rattle.forms.specs.Rows.{deletionBytes}

@@ -14,12 +14,12 @@ use Rattle.wire.specs.Got.{Got, got, bad, on}
 use Rattle.wire.specs.Store.{part, shown}
 use Rattle.wire.specs.declared.times.Bases.{Bases}
 use Rattle.wire.proofs.Gives.{Gives, gives-got, gives-bad, gives-on, gives-pick}
-use Rattle.cell.specs.Fields.{span, live, byteAt}
-use Rattle.cell.specs.declared.fields.Deletion.{Deletion}
-use Rattle.cell.specs.declared.fields.Span.{Span}
+use Rattle.field.specs.Fields.{span, live, byteAt}
+use Rattle.field.specs.declared.fields.Deletion.{Deletion}
+use Rattle.field.specs.declared.fields.Span.{Span}
 use Rattle.cell.specs.declared.cells.Times.{Times}
 use Rattle.cell.specs.declared.cells.Cell.{Cell}
-use Rattle.cell.proofs.Ranges.{ValueIn, DeletionIn}
+use Rattle.field.proofs.Ranges.{ValueIn, DeletionIn}
 use Rattle.cell.proofs.Gives.{TimesIn, CellOk}
 use Rattle.clustering.specs.Prefixes.{prefixAt}
 use Rattle.clustering.specs.Sizes.{sizesAt}

@@ -14,9 +14,9 @@ use Rattle.wire.specs.declared.times.Bases.{Bases}
 use Rattle.wire.proofs.RoundTrip.{Reads, reads-got, reads-on, reads-at, reads-yes, reads-no, reads-to}
 use Rattle.wire.proofs.Stands.{Stands, stands-left, stands-right}
 use Rattle.fixed.proofs.BigEndian.{fixed-back}
-use Rattle.cell.specs.Fields.{live}
-use Rattle.cell.specs.declared.fields.Deletion.{Deletion}
-use Rattle.cell.proofs.Ranges.{DeletionIn}
+use Rattle.field.specs.Fields.{live}
+use Rattle.field.specs.declared.fields.Deletion.{Deletion}
+use Rattle.field.proofs.Ranges.{DeletionIn}
 use Rattle.clustering.specs.Prefixes.{valuesAt}
 use Rattle.marker.specs.Kinds.{markerFlagsAt, kindAt, countAt}
 use Rattle.turns.specs.Turns.{badKind, isStart, isBoundary, outOfTurn}

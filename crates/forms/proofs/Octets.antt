@@ -15,12 +15,12 @@ use Rattle.varints.specs.Varints.{shortest}
 use Rattle.wire.specs.declared.times.Bases.{Bases}
 use Rattle.wire.proofs.Choose.{pick-ind}
 use Rattle.varints.proofs.Within.{Within, append, wider, nothing, one, fixed-within, shortest-within, shown-within}
-use Rattle.cell.specs.Fields.{live}
-use Rattle.cell.specs.declared.fields.Deletion.{Deletion}
-use Rattle.cell.specs.declared.fields.Span.{Span}
+use Rattle.field.specs.Fields.{live}
+use Rattle.field.specs.declared.fields.Deletion.{Deletion}
+use Rattle.field.specs.declared.fields.Span.{Span}
 use Rattle.cell.specs.declared.cells.Times.{Times}
 use Rattle.cell.specs.declared.cells.Cell.{Cell}
-use Rattle.cell.proofs.Ranges.{TimestampIn, LocalIn, TTLIn, DeletionIn}
+use Rattle.field.proofs.Ranges.{TimestampIn, LocalIn, TTLIn, DeletionIn}
 use Rattle.cell.proofs.Gives.{TimesIn}
 use Rattle.turns.specs.Turns.{badKind}
 use Rattle.marker.specs.declared.markers.Deletions.{Deletions}

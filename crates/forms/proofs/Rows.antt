@@ -17,11 +17,11 @@ use Rattle.wire.proofs.Choose.{pick-ind}
 use Rattle.wire.proofs.RoundTrip.{Reads, reads-got, reads-on, reads-at, reads-yes, reads-no, reads-to}
 use Rattle.wire.proofs.Stands.{Stands, stands-left, stands-right, narrow}
 use Rattle.varints.proofs.Varints.{varint-back}
-use Rattle.cell.specs.Fields.{deletion, live}
-use Rattle.cell.specs.declared.fields.Deletion.{Deletion}
+use Rattle.field.specs.Fields.{deletion, live}
+use Rattle.field.specs.declared.fields.Deletion.{Deletion}
 use Rattle.cell.specs.declared.cells.Times.{Times}
 use Rattle.cell.specs.declared.cells.Cell.{Cell}
-use Rattle.cell.proofs.Ranges.{DeletionIn}
+use Rattle.field.proofs.Ranges.{DeletionIn}
 use Rattle.cell.proofs.Gives.{TimesIn}
 use Rattle.clustering.specs.Prefixes.{valuesAt}
 use Rattle.clustering.specs.Sizes.{sizesAt}

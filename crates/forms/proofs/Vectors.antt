@@ -8,8 +8,8 @@ use Rattle.fixed.specs.BigEndian.{bytesOf}
 use Rattle.varints.specs.Varints.{form, extra, shortest}
 use Rattle.wire.specs.Times.{biased}
 use Rattle.wire.specs.declared.times.Bases.{Bases}
-use Rattle.cell.specs.Fields.{deletion, live}
-use Rattle.cell.specs.declared.fields.Deletion.{Deletion}
+use Rattle.field.specs.Fields.{deletion, live}
+use Rattle.field.specs.declared.fields.Deletion.{Deletion}
 use Rattle.cell.specs.declared.cells.Times.{Times}
 use Rattle.row.specs.Bodies.{times}
 use Rattle.turns.specs.Turns.{isBoundary}

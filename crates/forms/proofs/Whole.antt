@@ -12,8 +12,8 @@ use Rattle.wire.specs.Got.{Got, got, bad, on}
 use Rattle.wire.specs.declared.times.Bases.{Bases}
 use Rattle.wire.proofs.RoundTrip.{Reads, reads-got, reads-on, reads-at, reads-yes, reads-no, reads-to}
 use Rattle.wire.proofs.Stands.{Stands, stands-left, stands-right}
-use Rattle.cell.specs.Fields.{byteAt, live}
-use Rattle.cell.specs.declared.fields.Deletion.{Deletion}
+use Rattle.field.specs.Fields.{byteAt, live}
+use Rattle.field.specs.declared.fields.Deletion.{Deletion}
 use Rattle.contents.specs.Contents.{Widths, Entry, staticEntry, rowEntry, markerEntry, Contents, openBehind, entryAt, closedAt, entriesAt, wholeAt, contentsAt}
 use Rattle.contents.proofs.Unfolds.{entries-unfold, contents-unfold}
 use Rattle.forms.specs.Views.{RowView, EntryView, staticView, rowView, markerView, PartitionView, showEntry, showEntries, showPartition, showContents}

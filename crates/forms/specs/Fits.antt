@@ -8,9 +8,9 @@ use Prim.Native.Nat.{ℕ, _^_, _≤_, _<_}
 use lib.Dec.{eqb}
 use lib.ListN.{length, take}
 use Rattle.wire.specs.declared.times.Bases.{Bases}
-use Rattle.cell.specs.Fields.{live}
-use Rattle.cell.specs.declared.fields.Deletion.{Deletion}
-use Rattle.cell.proofs.Ranges.{TimestampIn, LocalIn, TTLIn, DeletionIn}
+use Rattle.field.specs.Fields.{live}
+use Rattle.field.specs.declared.fields.Deletion.{Deletion}
+use Rattle.field.proofs.Ranges.{TimestampIn, LocalIn, TTLIn, DeletionIn}
 use Rattle.cell.proofs.Gives.{TimesIn}
 use Rattle.turns.specs.Turns.{mayStand}
 use Rattle.turns.specs.Turns.{badKind, isStart, outOfTurn}

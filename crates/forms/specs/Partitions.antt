@@ -6,7 +6,7 @@ use lib.ListN.{length}
 use Rattle.wire.specs.Choose.{pick}
 use Rattle.fixed.specs.BigEndian.{bytesOf}
 use Rattle.wire.specs.Times.{biased}
-use Rattle.cell.specs.declared.fields.Deletion.{Deletion}
+use Rattle.field.specs.declared.fields.Deletion.{Deletion}
 
 -- "live is exactly 7FFFFFFF and -2^63"
 unfoldable pub headerLocal : Deletion → ℕ

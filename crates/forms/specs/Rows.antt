@@ -7,7 +7,7 @@ use lib.ListN.{length}
 use Rattle.wire.specs.Choose.{pick}
 use Rattle.varints.specs.Varints.{shortest}
 use Rattle.wire.specs.declared.times.Bases.{Bases}
-use Rattle.cell.specs.declared.fields.Deletion.{Deletion}
+use Rattle.field.specs.declared.fields.Deletion.{Deletion}
 use Rattle.cell.specs.declared.cells.Times.{Times}
 use Rattle.forms.specs.Views.{CellView, RowView}
 use Rattle.forms.specs.Cells.{cellForm}

@@ -9,7 +9,7 @@ use Rattle.wire.specs.Choose.{pick}
 use Rattle.wire.specs.Got.{Got, got, bad, on}
 use Rattle.wire.specs.declared.refusal.Fault.{Fault}
 use Rattle.wire.proofs.Choose.{told}
-use Rattle.cell.specs.declared.fields.Deletion.{Deletion}
+use Rattle.field.specs.declared.fields.Deletion.{Deletion}
 use Rattle.items.specs.declared.Item.{Item}
 use Rattle.taken.specs.Fields.{stray}
 use Rattle.taken.specs.Records.{outside}

@@ -3,7 +3,7 @@ ghost use mathlib.Core.Path.{_≡_};
 ghost use Rattle.intake.specs.Records.{wrongIn};
 ghost use Rattle.taken.specs.Tests.{badPlace, badNowhere, badKey, badWidth, badValue, badPartitionFlags, badRowFlags, badValueFlags, badCellFlags, badPartition, badRow, badStatic, badFirst, badMarker, badClustering, badCellPlace, badCell, badEnd};
 use crate::fields;
-use cell::fields::Deletion;
+use field::fields::Deletion;
 use items::Item;
 
 // What a record may be where it stands, but for rows, clustering values and cells.

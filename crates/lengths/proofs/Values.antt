@@ -12,7 +12,7 @@ use Rattle.wire.specs.Got.{Got, got, bad, on}
 use Rattle.wire.specs.declared.refusal.Fault.{Fault}
 use Rattle.wire.specs.declared.times.Bases.{Bases}
 use Rattle.wire.proofs.Finite.{below-at}
-use Rattle.cell.specs.declared.fields.Span.{Span}
+use Rattle.field.specs.declared.fields.Span.{Span}
 use Rattle.clustering.specs.Prefixes.{widthsAt}
 use Rattle.items.specs.declared.Item.{Item}
 use Rattle.forms.specs.Views.{showValue, showValues}

@@ -10,7 +10,7 @@ use Rattle.wire.specs.Store.{splice, Room, Puts}
 use Rattle.wire.specs.declared.refusal.Fault.{Fault}
 use Rattle.wire.specs.declared.times.Bases.{Bases}
 use Rattle.wire.proofs.Choose.{pick-yes, pick-no}
-use Rattle.cell.specs.Fields.{live}
+use Rattle.field.specs.Fields.{live}
 use Rattle.partition.specs.Partitions.{partitionAt, saidFound}
 use Rattle.partition.specs.declared.partitions.Partition.{Partition}
 use Rattle.partition.specs.declared.partitions.Found.{Found}

@@ -7,7 +7,7 @@ use lib.ListN.{length, getD}
 use Rattle.wire.specs.Got.{Got, got, on, Took}
 use Rattle.wire.specs.Store.{Room, Puts}
 use Rattle.wire.proofs.Gives.{got-value, got-place}
-use Rattle.cell.specs.declared.fields.Span.{Span}
+use Rattle.field.specs.declared.fields.Span.{Span}
 use Rattle.clustering.specs.Prefixes.{clusteringAt, valuesAt, widthsAt}
 use Rattle.items.specs.Items.{valueItem}
 use Rattle.items.specs.declared.Item.{Item}

@@ -6,8 +6,8 @@ use lib.ListN.{length}
 use mathlib.Core.Option.{Option}
 use Rattle.wire.specs.Got.{Got, got, bad}
 use Rattle.wire.specs.Store.{Room, Puts}
-use Rattle.cell.specs.declared.fields.Deletion.{Deletion}
-use Rattle.cell.specs.declared.fields.Span.{Span}
+use Rattle.field.specs.declared.fields.Deletion.{Deletion}
+use Rattle.field.specs.declared.fields.Span.{Span}
 use Rattle.cell.specs.declared.cells.Cell.{Cell}
 use Rattle.wire.specs.declared.times.Bases.{Bases}
 use Rattle.clustering.specs.Prefixes.{valuesAt, widthsAt}

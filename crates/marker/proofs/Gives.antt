@@ -9,10 +9,10 @@ use lib.Dec.{ltb, eqb}
 use lib.ListN.{length, take}
 use Rattle.wire.specs.Got.{Got, got}
 use Rattle.wire.proofs.Gives.{Gives, gives-got, gives-bad, gives-on, gives-pick}
-use Rattle.cell.specs.Fields.{live}
+use Rattle.field.specs.Fields.{live}
 use Rattle.wire.specs.declared.times.Bases.{Bases}
-use Rattle.cell.specs.declared.fields.Deletion.{Deletion}
-use Rattle.cell.proofs.Ranges.{Goes, Moves, goes-none, goes-goes, moves-on, moves-goes, moves-moves, DeletionIn, deletion-none, byte-gives, fixed-moves, deletion-gives}
+use Rattle.field.specs.declared.fields.Deletion.{Deletion}
+use Rattle.field.proofs.Ranges.{Goes, Moves, goes-none, goes-goes, moves-on, moves-goes, moves-moves, DeletionIn, deletion-none, byte-gives, fixed-moves, deletion-gives}
 use Rattle.clustering.proofs.Gives.{PrefixOk, Sized, prefix-gives, sizes-give}
 use Rattle.marker.specs.Kinds.{markerFlagsAt, kindAt, countAt}
 use Rattle.turns.specs.Turns.{badKind, isStart, isBoundary, outOfTurn}

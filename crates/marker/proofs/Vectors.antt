@@ -9,9 +9,9 @@ use Rattle.wire.specs.Got.{Got, got, bad, on}
 use Rattle.fixed.specs.BigEndian.{bigEndian, fixedAt}
 use Rattle.varints.specs.Varints.{leading, low, varintAt}
 use Rattle.wire.specs.declared.refusal.Fault.the-variants.{PastEnd, LeftOver, BadFlags, OutOfRange, OutOfTurn}
-use Rattle.cell.specs.Fields.{byteAt, inAt, deletionAt, variableAt, valueAt, deletion, live}
+use Rattle.field.specs.Fields.{byteAt, inAt, deletionAt, variableAt, valueAt, deletion, live}
 use Rattle.wire.specs.declared.times.Bases.{Bases}
-use Rattle.cell.specs.declared.fields.Deletion.{Deletion}
+use Rattle.field.specs.declared.fields.Deletion.{Deletion}
 use Rattle.clustering.specs.Prefixes.{badHeader, headerAt, clusteringAt, valuesAt, skipped, prefixAt}
 use Rattle.clustering.specs.Sizes.{sizesAt}
 use Rattle.marker.specs.Kinds.{markerFlagsAt, kindAt, countAt}

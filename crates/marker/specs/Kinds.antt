@@ -7,8 +7,8 @@ use Rattle.wire.specs.Choose.{pick}
 use Rattle.wire.specs.Got.{Got, got, bad, on, Reader}
 use Rattle.fixed.specs.BigEndian.{fixedAt}
 use Rattle.wire.specs.declared.refusal.Fault.the-variants.{BadFlags, OutOfRange, OutOfTurn}
-use Rattle.cell.specs.Fields.{byteAt}
-use Rattle.cell.specs.declared.fields.Deletion.{Deletion}
+use Rattle.field.specs.Fields.{byteAt}
+use Rattle.field.specs.declared.fields.Deletion.{Deletion}
 use Rattle.turns.specs.Turns.{badKind, outOfTurn}
 
 -- the flags of a marker, 02 alone: 4 at them

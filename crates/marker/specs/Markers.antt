@@ -7,9 +7,9 @@ use lib.ListN.{length, take}
 use Rattle.wire.specs.Choose.{pick}
 use Rattle.wire.specs.Got.{Got, got, bad, on, Reader, _>>=_, ret, when, filled}
 use Rattle.wire.specs.declared.refusal.Fault.the-variants.{LeftOver, OutOfTurn}
-use Rattle.cell.specs.Fields.{deletionAt, live}
+use Rattle.field.specs.Fields.{deletionAt, live}
 use Rattle.wire.specs.declared.times.Bases.{Bases}
-use Rattle.cell.specs.declared.fields.Deletion.{Deletion}
+use Rattle.field.specs.declared.fields.Deletion.{Deletion}
 use Rattle.clustering.specs.Prefixes.{prefixAt}
 use Rattle.clustering.specs.Sizes.{sizesAt}
 use Rattle.clustering.specs.declared.prefixes.Prefix.{Prefix}

@@ -3,7 +3,7 @@ ghost use mathlib.Core.Path.{_≡_};
 ghost use Rattle.wire.specs.Got.{saidNum};
 ghost use Rattle.marker.specs.Kinds.{markerFlagsAt, kindAt, countAt};
 ghost use Rattle.turns.specs.Turns.{badKind, isStart, isBoundary, outOfTurn};
-use cell::fields;
+use field::fields;
 use wire::number::Num;
 use wire::refusal::Fault;
 

@@ -14,8 +14,8 @@ use Rattle.wire.specs.declared.number.Num.the-variants.{Number, Refused as num-
 use Rattle.wire.specs.declared.times.Bases.{Bases}
 use Rattle.wire.proofs.Choose.{pick-yes, pick-no}
 use Rattle.wire.proofs.Said.{num-got}
-use Rattle.cell.specs.Fields.{live}
-use Rattle.cell.specs.declared.fields.Deletion.{Deletion}
+use Rattle.field.specs.Fields.{live}
+use Rattle.field.specs.declared.fields.Deletion.{Deletion}
 use Rattle.schema.specs.declared.records.Counts.{Counts}
 use Rattle.items.specs.declared.Item.{Item}
 use Rattle.contents.specs.Contents.{Widths, widthsOf, Entry, Contents, openBehind}

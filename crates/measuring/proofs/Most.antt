@@ -9,7 +9,7 @@ use lib.ListN.{length, getD, length-append}
 use Rattle.wire.specs.Got.{Got}
 use Rattle.wire.specs.declared.times.Bases.{Bases}
 use Rattle.wire.proofs.Gives.{Gives, gives-got, gives-bad, gives-on, gives-pick}
-use Rattle.cell.specs.declared.fields.Deletion.{Deletion}
+use Rattle.field.specs.declared.fields.Deletion.{Deletion}
 use Rattle.cell.specs.declared.cells.Times.{Times}
 use Rattle.contents.specs.Contents.{Widths, openBehind}
 use Rattle.forms.specs.Views.{showValue, showValues, showCell, showCells, showEntry, showEntries}

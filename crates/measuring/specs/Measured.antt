@@ -4,7 +4,7 @@ use mathlib.Core.List.{List}
 use lib.ListN.{length}
 use Rattle.wire.specs.Got.{Got, got, bad, Reader, _>>=_, ret}
 use Rattle.wire.specs.declared.times.Bases.{Bases}
-use Rattle.cell.specs.declared.fields.Deletion.{Deletion}
+use Rattle.field.specs.declared.fields.Deletion.{Deletion}
 use Rattle.marker.specs.declared.markers.Deletions.{Deletions}
 use Rattle.items.specs.declared.Item.{Item}
 use Rattle.contents.specs.Contents.{Widths, Entry, staticEntry, rowEntry, Contents, openBehind}

@@ -6,7 +6,7 @@ ghost use Rattle.tables.specs.Tables.{Table};
 ghost use Rattle.contents.specs.Contents.{widthsOf};
 ghost use Rattle.taken.specs.Entries.{takenStatic, takenRow, takenMarker, takenEntry};
 ghost use Rattle.measuring.specs.Measured.{sizedLength, bodyLength, staticLength, rowLength, markerLength, staticBehind, rowBehind, entryMeasured, saidPassed};
-use cell::fields::Deletion;
+use field::fields::Deletion;
 use intake::ranges::Record;
 use intake::records;
 use intake::tests::Turn;

@@ -13,9 +13,9 @@ use Rattle.fixed.specs.BigEndian.{fixedAt}
 use Rattle.wire.proofs.Choose.{pick-ind}
 use Rattle.wire.proofs.Gives.{Gives, gives-got, gives-bad, gives-on, gives-pick, gives-bind}
 use Rattle.fixed.proofs.BigEndian.{Fixed, fixed-gives}
-use Rattle.cell.specs.declared.fields.Deletion.{Deletion}
-use Rattle.cell.specs.declared.fields.Span.{Span}
-use Rattle.cell.proofs.Ranges.{Moves, moves-moves, fixed-moves}
+use Rattle.field.specs.declared.fields.Deletion.{Deletion}
+use Rattle.field.specs.declared.fields.Span.{Span}
+use Rattle.field.proofs.Ranges.{Moves, moves-moves, fixed-moves}
 use Rattle.wire.specs.Times.{biased}
 use Rattle.partition.specs.Partitions.{keyOf, deletedBy, deletedAt, partitionAt}
 use Rattle.partition.specs.declared.partitions.Partition.{Partition}

@@ -6,7 +6,7 @@ use Rattle.wire.specs.Choose.{pick, bind}
 use Rattle.wire.specs.Got.{Got, got, bad, on}
 use Rattle.fixed.specs.BigEndian.{bigEndian, fixedAt}
 use Rattle.wire.specs.declared.refusal.Fault.the-variants.{PastEnd, OutOfRange}
-use Rattle.cell.specs.Fields.{span, deletion, live}
+use Rattle.field.specs.Fields.{span, deletion, live}
 use Rattle.wire.specs.Times.{biased}
 use Rattle.partition.specs.Partitions.{keyOf, deletedBy, deletedAt, partitionAt}
 

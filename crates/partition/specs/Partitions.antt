@@ -6,9 +6,9 @@ use Rattle.wire.specs.Times.{biased}
 use Rattle.wire.specs.Got.{Got, got, bad, on, Reader}
 use Rattle.fixed.specs.BigEndian.{fixedAt}
 use Rattle.wire.specs.declared.refusal.Fault.the-variants.{PastEnd, OutOfRange}
-use Rattle.cell.specs.Fields.{span, deletion, live}
-use Rattle.cell.specs.declared.fields.Deletion.{Deletion}
-use Rattle.cell.specs.declared.fields.Span.{Span}
+use Rattle.field.specs.Fields.{span, deletion, live}
+use Rattle.field.specs.declared.fields.Deletion.{Deletion}
+use Rattle.field.specs.declared.fields.Span.{Span}
 use Rattle.partition.specs.declared.partitions.Partition.{Partition}
 use Rattle.partition.specs.declared.partitions.Found.{Found}
 use Rattle.partition.specs.declared.partitions.Found.the-variants.{Read, Refused}

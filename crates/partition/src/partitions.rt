@@ -1,10 +1,10 @@
 // The header of a partition: key and deletion.
 ghost use mathlib.Core.Path.{_≡_};
-ghost use Rattle.cell.specs.Fields.{saidDeleted};
+ghost use Rattle.field.specs.Fields.{saidDeleted};
 ghost use Rattle.partition.specs.Partitions.{keyOf, deletedBy, deletedAt, partitionAt, saidFound};
-use cell::fields::Deleted;
-use cell::fields::Deletion;
-use cell::fields::Span;
+use field::fields::Deleted;
+use field::fields::Deletion;
+use field::fields::Span;
 use wire::number::Num;
 use wire::refusal::Fault;
 use wire::times;

@@ -6,9 +6,9 @@ use borrow.Author.Tests.{eq-eqb, ne-eqb}
 use lib.ListN.{getD}
 use Rattle.fixed.specs.BigEndian.{bigEndian}
 use Rattle.wire.proofs.Choose.{pick-yes, pick-no}
-use Rattle.cell.specs.Fields.{span, live}
+use Rattle.field.specs.Fields.{span, live}
 use Rattle.cell.specs.Cells.{cell}
-use Rattle.cell.specs.declared.fields.Span.{Span}
+use Rattle.field.specs.declared.fields.Span.{Span}
 use Rattle.items.specs.declared.Item.{Item}
 use Rattle.taken.specs.Fields.{signedAt, itemOf, hasExpiry, hasLocal, hasSecond}
 use Rattle.taken.specs.Entries.{valueOf, secondOf, cellOf}

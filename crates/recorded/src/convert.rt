@@ -7,8 +7,8 @@ ghost use Rattle.taken.specs.Entries.{valueOf, deletionOf, secondOf, deletionsO
 use crate::fields;
 use cell::cells::Cell;
 use cell::cells::Times;
-use cell::fields::Deletion;
-use cell::fields::Span;
+use field::fields::Deletion;
+use field::fields::Span;
 use items::Item;
 use marker::markers::Deletions;
 

@@ -11,9 +11,9 @@ use lib.ListN.{length}
 use Rattle.wire.specs.Got.{Got, got}
 use Rattle.wire.proofs.Gives.{Gives, gives-got, gives-bad, gives-on, gives-pick, gives-bind}
 use Rattle.wire.specs.declared.times.Bases.{Bases}
-use Rattle.cell.specs.declared.fields.Deletion.{Deletion}
+use Rattle.field.specs.declared.fields.Deletion.{Deletion}
 use Rattle.cell.specs.declared.cells.Times.{Times}
-use Rattle.cell.proofs.Ranges.{Goes, Moves, goes-none, goes-goes, moves-on, moves-goes, TimestampIn, DeletionIn, deletion-none, byte-gives, varint-moves, in-gives, deletion-gives}
+use Rattle.field.proofs.Ranges.{Goes, Moves, goes-none, goes-goes, moves-on, moves-goes, TimestampIn, DeletionIn, deletion-none, byte-gives, varint-moves, in-gives, deletion-gives}
 use Rattle.cell.proofs.Gives.{TimesIn}
 use Rattle.clustering.specs.Prefixes.{prefixAt}
 use Rattle.clustering.proofs.Gives.{PrefixOk, Sized, prefix-gives, sizes-give}

@@ -7,7 +7,7 @@ use Rattle.wire.specs.Got.{Got, got, bad, on}
 use Rattle.fixed.specs.BigEndian.{bigEndian}
 use Rattle.varints.specs.Varints.{leading, low, varintAt}
 use Rattle.wire.specs.declared.refusal.Fault.the-variants.{PastEnd, BadFlags, OutOfRange, OutOfTurn, NotCarried}
-use Rattle.cell.specs.Fields.{byteAt, inAt, deletionAt, variableAt, valueAt, deletion, live}
+use Rattle.field.specs.Fields.{byteAt, inAt, deletionAt, variableAt, valueAt, deletion, live}
 use Rattle.wire.specs.declared.times.Bases.{Bases}
 use Rattle.clustering.specs.Prefixes.{badHeader, headerAt, clusteringAt, valuesAt, skipped, prefixAt}
 use Rattle.clustering.specs.Sizes.{sizesAt}

@@ -7,9 +7,9 @@ use Rattle.wire.specs.Choose.{pick, bind}
 use Rattle.wire.specs.Got.{Got, got, bad, on, Reader, _>>=_, ret, when}
 use Rattle.varints.specs.Varints.{varintAt}
 use Rattle.wire.specs.declared.refusal.Fault.the-variants.{BadFlags}
-use Rattle.cell.specs.Fields.{inAt, timestampAt, localAt, ttlAt, deletionAt, live}
+use Rattle.field.specs.Fields.{inAt, timestampAt, localAt, ttlAt, deletionAt, live}
 use Rattle.wire.specs.declared.times.Bases.{Bases}
-use Rattle.cell.specs.declared.fields.Deletion.{Deletion}
+use Rattle.field.specs.declared.fields.Deletion.{Deletion}
 use Rattle.cell.specs.declared.cells.Times.{Times}
 use Rattle.clustering.specs.Sizes.{sizesAt}
 use Rattle.row.specs.declared.bodies.Body.{Body}

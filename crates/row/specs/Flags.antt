@@ -5,7 +5,7 @@ use lib.Dec.{ltb, eqb}
 use Rattle.wire.specs.Choose.{pick}
 use Rattle.wire.specs.Got.{Got, got, bad, on, Reader}
 use Rattle.wire.specs.declared.refusal.Fault.the-variants.{BadFlags, OutOfTurn, NotCarried}
-use Rattle.cell.specs.Fields.{byteAt}
+use Rattle.field.specs.Fields.{byteAt}
 use Rattle.turns.specs.Turns.{mayStand}
 
 -- "Row flags: 01 end (alone), 02 marker (alone), 04 timestamp, 08 TTL (only with 04), 10 deletion, 20 all columns, 40 complex deletion

@@ -2,13 +2,13 @@
 ghost use mathlib.Core.Path.{_≡_};
 ghost use Prim.Native.Nat.{_≤_};
 ghost use Rattle.wire.specs.Got.{saidNum};
-ghost use Rattle.cell.specs.Fields.{saidDeleted};
+ghost use Rattle.field.specs.Fields.{saidDeleted};
 ghost use Rattle.row.specs.Bodies.{expiryAt, livenessAt, rowDeletionAt, columns, presentAt, contentAt, bodyAt, saidTimed, saidBodied};
 use cell::cells::Times;
-use cell::fields;
-use cell::fields::Deleted;
-use cell::fields::Deletion;
 use clustering::sizes;
+use field::fields;
+use field::fields::Deleted;
+use field::fields::Deletion;
 use wire::number::Num;
 use wire::refusal::Fault;
 use wire::times::Bases;

@@ -3,7 +3,7 @@ ghost use mathlib.Core.Path.{_≡_};
 ghost use Rattle.wire.specs.Got.{saidNum};
 ghost use Rattle.row.specs.Flags.{badRowFlags, rowFlagsAt, extendedOf, extendedAt};
 ghost use Rattle.turns.specs.Turns.{mayStand};
-use cell::fields;
+use field::fields;
 use wire::number::Num;
 use wire::refusal::Fault;
 

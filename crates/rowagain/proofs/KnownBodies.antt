@@ -14,9 +14,9 @@ use Rattle.wire.proofs.Gives.{gives-is}
 use Rattle.wire.proofs.Took.{took-first, took-then, took-yes, took-no, took-past, past, on-again}
 use Rattle.varints.specs.Varints.{varintAt}
 use Rattle.varints.proofs.Varints.{varint-ends}
-use Rattle.cell.specs.Fields.{timestampAt, localAt, ttlAt, deletionAt}
+use Rattle.field.specs.Fields.{timestampAt, localAt, ttlAt, deletionAt}
 use Rattle.cell.specs.declared.cells.Times.{Times}
-use Rattle.cell.specs.declared.fields.Deletion.{Deletion}
+use Rattle.field.specs.declared.fields.Deletion.{Deletion}
 use Rattle.clustering.specs.Sizes.{sizesAt}
 use Rattle.row.specs.Bodies.{expiryAt, livenessAt, rowDeletionAt, columns, presentAt, contentAt, bodyAt}
 

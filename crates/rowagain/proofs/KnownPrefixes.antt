@@ -14,9 +14,9 @@ use Rattle.wire.proofs.Choose.{pick-no}
 use Rattle.wire.proofs.Gives.{never}
 use Rattle.wire.proofs.Took.{took-first, took-then, took-no, past, on-again}
 use Rattle.varints.specs.Varints.{varintAt}
-use Rattle.cell.specs.Fields.{valueAt, saidPart}
-use Rattle.cell.specs.declared.fields.Span.{Span}
-use Rattle.cell.specs.declared.fields.Part.the-variants.{Lies}
+use Rattle.field.specs.Fields.{valueAt, saidPart}
+use Rattle.field.specs.declared.fields.Span.{Span}
+use Rattle.field.specs.declared.fields.Part.the-variants.{Lies}
 use Rattle.clustering.specs.Prefixes.{headerAt, clusteringAt, valuesAt, prefixAt, widthsAt, skipped, saidSkipped}
 use Rattle.clustering.specs.declared.prefixes.Prefix.{Prefix}
 use Rattle.clustering.proofs.Loops.{widths-count, Skipping, skipping-none, skipping-end, skipping-index, skipping-width, skipping-column, skipping-more}

@@ -13,14 +13,14 @@ use Rattle.wire.specs.declared.times.Bases.{Bases}
 use Rattle.wire.proofs.Choose.{pick-yes, pick-no}
 use Rattle.wire.proofs.Gives.{never, gives-is}
 use Rattle.wire.proofs.Took.{took-first, took-then, took-yes, took-no, took-past, past, on-again}
-use Rattle.cell.specs.Fields.{byteAt}
+use Rattle.field.specs.Fields.{byteAt}
 use Rattle.clustering.specs.Prefixes.{prefixAt, widthsAt}
 use Rattle.clustering.specs.declared.prefixes.Prefix.{Prefix}
 use Rattle.row.specs.Flags.{rowFlagsAt, extendedOf, extendedAt}
 use Rattle.row.specs.Bodies.{bodyAt}
 use Rattle.row.specs.Rows.{restAt, rowAt, clusteringIn, cellsIn, staticIn}
 use Rattle.row.specs.declared.rows.Row.{Row}
-use Rattle.cell.proofs.Ranges.{byte-gives}
+use Rattle.field.proofs.Ranges.{byte-gives}
 use Rattle.row.proofs.Gives.{extended-gives}
 use Rattle.row.proofs.Parts.{clustering-inside, cells-few, rest-is}
 use Rattle.turns.specs.Turns.{mayStand}

@@ -2,12 +2,12 @@
 ghost use mathlib.Core.Path.{_≡_};
 ghost use Prim.Native.Nat.{_≤_};
 ghost use Rattle.wire.specs.Got.{got, Took};
-ghost use Rattle.cell.specs.Fields.{deletionAt};
+ghost use Rattle.field.specs.Fields.{deletionAt};
 ghost use Rattle.clustering.specs.Sizes.{sizesAt};
 ghost use Rattle.row.specs.Bodies.{expiryAt, livenessAt, rowDeletionAt, presentAt, contentAt, bodyAt};
 use cell::cells::Times;
-use cell::fields::Deletion;
 use cellagain::fields;
+use field::fields::Deletion;
 use row::bodies;
 use row::bodies::Body;
 use wire::number::Known;

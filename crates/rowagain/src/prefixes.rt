@@ -4,10 +4,10 @@ ghost use Prim.Native.Nat.{_+_, _*_, _≤_};
 ghost use lib.ListN.{length};
 ghost use Rattle.wire.specs.Got.{got, Took};
 ghost use Rattle.clustering.specs.Prefixes.{headerAt, clusteringAt, valuesAt, prefixAt, widthsAt, skipped};
-use cell::fields::Span;
 use cellagain::fields;
 use cellagain::fields::Lain;
 use clustering::prefixes::Prefix;
+use field::fields::Span;
 use wire::number::Known;
 
 // Header and first value, and the place after the values.

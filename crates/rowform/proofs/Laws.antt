@@ -12,7 +12,7 @@ use Rattle.wire.specs.Store.{shown}
 use Rattle.wire.specs.Times.{biased}
 use Rattle.wire.specs.declared.times.Bases.{Bases}
 use Rattle.fixed.proofs.BigEndian.{length-bytesOf}
-use Rattle.cell.specs.declared.fields.Deletion.{Deletion}
+use Rattle.field.specs.declared.fields.Deletion.{Deletion}
 use Rattle.cell.specs.declared.cells.Times.{Times}
 use Rattle.turns.specs.Turns.{isBoundary}
 use Rattle.marker.specs.declared.markers.Deletions.{Deletions}

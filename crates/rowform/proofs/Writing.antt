@@ -6,7 +6,7 @@ use lib.ListN.{length}
 use Rattle.fixed.specs.BigEndian.{bytesOf}
 use Rattle.wire.specs.Store.{Room, Puts, part, shown}
 use Rattle.wire.proofs.Puts.{puts-then, room-left, room-right}
-use Rattle.cell.specs.declared.fields.Deletion.{Deletion}
+use Rattle.field.specs.declared.fields.Deletion.{Deletion}
 use Rattle.forms.specs.Partitions.{deletedBytes, headBytes}
 use Rattle.deltas.proofs.Writing.{shown-part, shown-len}
 

@@ -7,7 +7,7 @@ use Rattle.wire.specs.Choose.{pick}
 use Rattle.varints.specs.Varints.{shortest}
 use Rattle.fixed.specs.BigEndian.{bytesOf}
 use Rattle.wire.specs.declared.times.Bases.{Bases}
-use Rattle.cell.specs.declared.fields.Deletion.{Deletion}
+use Rattle.field.specs.declared.fields.Deletion.{Deletion}
 use Rattle.cell.specs.declared.cells.Times.{Times}
 use Rattle.turns.specs.Turns.{isBoundary}
 use Rattle.forms.specs.Rows.{livenessBytes, deletionBytes, rowDeletionBytes, missingBytes}

@@ -9,8 +9,8 @@ ghost use Rattle.forms.specs.Rows.{rowExpiryBytes, livenessBytes, rowDeletionBy
 ghost use Rattle.rowform.specs.Parts.{restForm, headForm};
 use crate::pairs;
 use cell::cells::Times;
-use cell::fields::Deletion;
 use deltas::numbers;
+use field::fields::Deletion;
 use wire::times::Bases;
 
 // TTL and local deletion time, where the row has them.

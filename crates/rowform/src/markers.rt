@@ -8,8 +8,8 @@ ghost use Rattle.wire.specs.Store.{Room, Puts};
 ghost use Rattle.forms.specs.Markers.{deletionsBytes};
 ghost use Rattle.rowform.specs.Parts.{secondForm, boundForm};
 use crate::pairs;
-use cell::fields::Deletion;
 use deltas::numbers;
+use field::fields::Deletion;
 use marker::markers::Deletions;
 use wire::times::Bases;
 

@@ -6,8 +6,8 @@ ghost use lib.ListN.{length};
 ghost use Rattle.varints.specs.Varints.{shortest};
 ghost use Rattle.wire.specs.Store.{Room, Puts};
 ghost use Rattle.forms.specs.Rows.{deletionBytes};
-use cell::fields::Deletion;
 use deltas::numbers;
+use field::fields::Deletion;
 use wire::times::Bases;
 
 pub(crate) fn pair_len(base: u64, x: u64, other: u64, y: u64) -> u64

@@ -7,8 +7,8 @@ ghost use Rattle.wire.specs.Store.{Room, Puts, part, shown};
 ghost use Rattle.fixed.specs.BigEndian.{bytesOf};
 ghost use Rattle.wire.specs.Times.{biased};
 ghost use Rattle.forms.specs.Partitions.{headerLocal, deletedBytes, headBytes};
-use cell::fields::Deletion;
-use cell::fields::Span;
+use field::fields::Deletion;
+use field::fields::Span;
 use wire::part;
 use wire::times;
 

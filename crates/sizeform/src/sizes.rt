@@ -8,8 +8,8 @@ ghost use Rattle.wire.specs.Store.{Room, Puts};
 ghost use Rattle.forms.specs.Rows.{rowFlags};
 ghost use Rattle.rowform.specs.Parts.{bodySize, sizesForm, allThere};
 use cell::cells::Times;
-use cell::fields::Deletion;
 use deltas::numbers;
+use field::fields::Deletion;
 
 // The length of the shortest varint of x.
 fn size_len(x: u64) -> u64

@@ -10,8 +10,8 @@ use Rattle.wire.specs.Refusals.{Outcome, taken, refused}
 use Rattle.wire.specs.Store.{part}
 use Rattle.wire.specs.Times.{biased}
 use Rattle.wire.specs.declared.times.Bases.{Bases}
-use Rattle.cell.specs.Fields.{deletion}
-use Rattle.cell.specs.declared.fields.Deletion.{Deletion}
+use Rattle.field.specs.Fields.{deletion}
+use Rattle.field.specs.declared.fields.Deletion.{Deletion}
 use Rattle.cell.specs.declared.cells.Times.{Times}
 use Rattle.row.specs.Bodies.{times}
 use Rattle.items.specs.Items.{item, valueOf}

@@ -5,7 +5,7 @@ ghost use Rattle.wire.specs.Refusals.{saidRefusal};
 ghost use Rattle.answers.specs.Words.{words};
 ghost use Rattle.sstable_data.specs.Data.{basesIn, phaseNumber, phaseOf, flagOf, openedIn, timesIn, handIn, positionIn, cursorIn, stateWords, itemWords, noItem, stepOf, Told, showing, Shows};
 use cell::cells::Times;
-use cell::fields::Deletion;
+use field::fields::Deletion;
 use items::Item;
 use walk::cursors::Cursor;
 use walk::cursors::Hand;

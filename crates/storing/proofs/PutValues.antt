@@ -5,7 +5,7 @@ use Prim.Native.Nat.{ℕ, suc, _+_, _-_, _*_, _^_, _≤_, _<_}
 use native.Mathlib.Omega.{arith}
 use lib.ListN.{length, getD}
 use Rattle.wire.specs.Store.{Room, Puts, shown}
-use Rattle.cell.specs.declared.fields.Span.{Span}
+use Rattle.field.specs.declared.fields.Span.{Span}
 use Rattle.forms.specs.Clusterings.{clusteringBytes}
 use Rattle.taken.specs.Fields.{itemOf}
 use Rattle.taken.specs.Entries.{valueOf}

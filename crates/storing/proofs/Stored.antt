@@ -7,7 +7,7 @@ use lib.ListN.{length}
 use Rattle.wire.specs.Store.{Room, Puts}
 use Rattle.wire.specs.declared.times.Bases.{Bases}
 use Rattle.wire.proofs.Puts.{room-left, room-right, puts-then}
-use Rattle.cell.specs.declared.fields.Deletion.{Deletion}
+use Rattle.field.specs.declared.fields.Deletion.{Deletion}
 use Rattle.cell.specs.declared.cells.Times.{Times}
 use Rattle.marker.specs.declared.markers.Deletions.{Deletions}
 use Rattle.forms.specs.Markers.{deletionsBytes}

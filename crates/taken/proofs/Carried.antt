@@ -11,8 +11,8 @@ use Rattle.wire.specs.Choose.{pick}
 use Rattle.wire.specs.Got.{got, on}
 use Rattle.wire.specs.Store.{shown}
 use Rattle.wire.specs.declared.times.Bases.{Bases}
-use Rattle.cell.specs.Fields.{deletion, live}
-use Rattle.cell.specs.declared.fields.Deletion.{Deletion}
+use Rattle.field.specs.Fields.{deletion, live}
+use Rattle.field.specs.declared.fields.Deletion.{Deletion}
 use Rattle.cell.specs.declared.cells.Cell.{Cell}
 use Rattle.marker.specs.declared.markers.Deletions.{Deletions}
 use Rattle.items.specs.Items.{showsValue}

@@ -14,9 +14,9 @@ use Rattle.wire.specs.Store.{shown}
 use Rattle.wire.specs.declared.times.Bases.{Bases}
 use Rattle.wire.proofs.Choose.{pick-ind}
 use Rattle.wire.proofs.Gives.{Gives, gives-got, gives-bad, gives-on, gives-pick}
-use Rattle.cell.specs.Fields.{deletion, live}
-use Rattle.cell.specs.declared.fields.Deletion.{Deletion}
-use Rattle.cell.proofs.Ranges.{TimestampIn, LocalIn, DeletionIn, deletion-none}
+use Rattle.field.specs.Fields.{deletion, live}
+use Rattle.field.specs.declared.fields.Deletion.{Deletion}
+use Rattle.field.proofs.Ranges.{TimestampIn, LocalIn, DeletionIn, deletion-none}
 use Rattle.cell.proofs.Gives.{TimesIn}
 use Rattle.row.specs.Bodies.{times}
 use Rattle.turns.specs.Turns.{mayStand}

@@ -10,10 +10,10 @@ use lib.ListN.{length}
 use Rattle.wire.specs.Got.{Got}
 use Rattle.wire.specs.declared.times.Bases.{Bases}
 use Rattle.wire.proofs.Gives.{Gives, gives-got, gives-bad, gives-on, gives-pick}
-use Rattle.cell.specs.Fields.{live}
-use Rattle.cell.specs.declared.fields.Deletion.{Deletion}
+use Rattle.field.specs.Fields.{live}
+use Rattle.field.specs.declared.fields.Deletion.{Deletion}
 use Rattle.cell.specs.declared.cells.Times.{Times}
-use Rattle.cell.proofs.Ranges.{deletion-gives}
+use Rattle.field.proofs.Ranges.{deletion-gives}
 use Rattle.row.specs.Flags.{badRowFlags}
 use Rattle.row.specs.Bodies.{expiryAt, livenessAt, rowDeletionAt, contentAt, bodyAt}
 use Rattle.row.specs.Rows.{restAt, rowAt}

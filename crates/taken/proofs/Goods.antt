@@ -11,7 +11,7 @@ use Rattle.wire.specs.Choose.{pick}
 use Rattle.wire.specs.Store.{part, shown}
 use Rattle.wire.specs.declared.times.Bases.{Bases}
 use Rattle.wire.proofs.Gives.{Gives, gives-got, gives-bad, gives-pick, gives-bind}
-use Rattle.cell.proofs.Ranges.{In, TimestampIn, LocalIn, TTLIn}
+use Rattle.field.proofs.Ranges.{In, TimestampIn, LocalIn, TTLIn}
 use Rattle.items.specs.declared.Item.{Item}
 use Rattle.taken.specs.Fields.{itemOf, strayBytes, hasTime, hasExpiry, hasLocal, hasMark, hasSecond, strayNumbers}
 use Rattle.taken.specs.Records.{outside, lastRangesAt, rangesAt, recordAt}

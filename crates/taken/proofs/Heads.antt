@@ -11,10 +11,10 @@ use lib.ListN.{length}
 use Rattle.wire.specs.Choose.{pick, bind}
 use Rattle.wire.specs.declared.times.Bases.{Bases}
 use Rattle.wire.proofs.Choose.{pick-yes, pick-no, pick-ind}
-use Rattle.cell.specs.Fields.{deletion}
-use Rattle.cell.specs.declared.fields.Deletion.{Deletion}
+use Rattle.field.specs.Fields.{deletion}
+use Rattle.field.specs.declared.fields.Deletion.{Deletion}
 use Rattle.cell.specs.declared.cells.Times.{Times}
-use Rattle.cell.proofs.Ranges.{TimestampIn, LocalIn, DeletionIn}
+use Rattle.field.proofs.Ranges.{TimestampIn, LocalIn, DeletionIn}
 use Rattle.cell.proofs.Gives.{TimesIn}
 use Rattle.row.specs.Bodies.{times}
 use Rattle.turns.specs.Turns.{mayStand}

@@ -10,7 +10,7 @@ use lib.Dec.{eqb}
 use lib.ListN.{length}
 use Rattle.wire.specs.Choose.{pick, bind}
 use Rattle.wire.proofs.Choose.{pick-no}
-use Rattle.cell.specs.declared.fields.Span.{Span}
+use Rattle.field.specs.declared.fields.Span.{Span}
 use Rattle.cell.specs.declared.cells.Cell.{Cell}
 use Rattle.row.specs.declared.rows.Row.{Row}
 use Rattle.marker.specs.declared.markers.Marker.{Marker}

@@ -11,9 +11,9 @@ use Rattle.wire.specs.Choose.{pick, bind}
 use Rattle.wire.specs.declared.times.Bases.{Bases}
 use Rattle.wire.proofs.Choose.{pick-yes, pick-no, pick-ind}
 use Rattle.cell.specs.Cells.{cell}
-use Rattle.cell.specs.declared.fields.Span.{Span}
+use Rattle.field.specs.declared.fields.Span.{Span}
 use Rattle.cell.specs.declared.cells.Cell.{Cell}
-use Rattle.cell.proofs.Ranges.{ValueIn}
+use Rattle.field.proofs.Ranges.{ValueIn}
 use Rattle.cell.proofs.Gives.{CellIn}
 use Rattle.items.specs.Items.{item, zeroed, partitionFlags, cellFlags, valueItem, cellItem}
 use Rattle.items.specs.declared.Item.{Item}

@@ -14,7 +14,7 @@ use Rattle.wire.specs.declared.times.Bases.{Bases}
 use Rattle.fixed.proofs.BigEndian.{spelled-back}
 use Rattle.wire.proofs.RoundTrip.{Reads, reads-got, reads-no, reads-to}
 use Rattle.wire.proofs.Stands.{Stands, stands-left, stands-right, stands-byte}
-use Rattle.cell.proofs.Ranges.{In}
+use Rattle.field.proofs.Ranges.{In}
 use Rattle.items.specs.declared.Item.{Item}
 use Rattle.listing.specs.Records.{signedBytes, kindBytes, columnBytes, headBytes, localBytes, timeBytes, secondBytes, placeBytes, tailBytes, recordOf}
 use Rattle.listing.proofs.Loops.{length-recordOf}

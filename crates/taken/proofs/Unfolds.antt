@@ -12,8 +12,8 @@ use Rattle.wire.specs.declared.refusal.Fault.the-variants.{BadRecord}
 use Rattle.wire.specs.declared.times.Bases.{Bases}
 use Rattle.wire.proofs.Choose.{pick-yes}
 use Rattle.wire.proofs.Gives.{Gives, gives-got, gives-bad, gives-on, gives-pick}
-use Rattle.cell.specs.Fields.{live}
-use Rattle.cell.specs.declared.fields.Deletion.{Deletion}
+use Rattle.field.specs.Fields.{live}
+use Rattle.field.specs.declared.fields.Deletion.{Deletion}
 use Rattle.contents.specs.Contents.{Widths, Entry, Contents, openBehind}
 use Rattle.counting.proofs.Follows.{on-same}
 use Rattle.taken.specs.Records.{kindAt}

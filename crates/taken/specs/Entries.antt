@@ -10,10 +10,10 @@ use Rattle.wire.specs.Choose.{pick}
 use Rattle.wire.specs.Got.{got, bad, on, Reader, _>>=_, ret, when}
 use Rattle.wire.specs.declared.refusal.Fault.the-variants.{BadRecord}
 use Rattle.wire.specs.declared.times.Bases.{Bases}
-use Rattle.cell.specs.Fields.{span, deletion, live}
+use Rattle.field.specs.Fields.{span, deletion, live}
 use Rattle.cell.specs.Cells.{cell}
-use Rattle.cell.specs.declared.fields.Deletion.{Deletion}
-use Rattle.cell.specs.declared.fields.Span.{Span}
+use Rattle.field.specs.declared.fields.Deletion.{Deletion}
+use Rattle.field.specs.declared.fields.Span.{Span}
 use Rattle.cell.specs.declared.cells.Times.{Times}
 use Rattle.cell.specs.declared.cells.Cell.{Cell}
 use Rattle.row.specs.Bodies.{times, body}

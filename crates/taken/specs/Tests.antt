@@ -6,8 +6,8 @@ use mathlib.Core.List.{List}
 use lib.Dec.{ltb, eqb}
 use lib.ListN.{length}
 use Rattle.wire.specs.Choose.{pick}
-use Rattle.cell.specs.Fields.{deletion}
-use Rattle.cell.specs.declared.fields.Deletion.{Deletion}
+use Rattle.field.specs.Fields.{deletion}
+use Rattle.field.specs.declared.fields.Deletion.{Deletion}
 use Rattle.turns.specs.Turns.{mayStand}
 use Rattle.turns.specs.Turns.{badKind, isStart, outOfTurn}
 use Rattle.turns.specs.Turns.{sameDeletion}

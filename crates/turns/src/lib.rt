@@ -1,7 +1,7 @@
 // What may stand where in Data, for its reader and its writer: kinds of markers and their turns, static rows.
 ghost use mathlib.Core.Path.{_≡_};
 ghost use Rattle.turns.specs.Turns.{badKind, isStart, isBoundary, outOfTurn, sameDeletion, mayStand};
-use cell::fields::Deletion;
+use field::fields::Deletion;
 
 // Whether a number is no kind of a marker.
 pub fn bad_kind(kind: u64) -> bool

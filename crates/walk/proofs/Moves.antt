@@ -16,8 +16,8 @@ use Rattle.wire.specs.Refusals.{Outcome, taken, refused}
 use Rattle.wire.specs.declared.times.Bases.{Bases}
 use Rattle.wire.proofs.Choose.{pick-ind}
 use Rattle.wire.proofs.Gives.{Gives, gives-got, gives-bad, gives-on, gives-pick, gives-bind}
-use Rattle.cell.specs.declared.fields.Deletion.{Deletion}
-use Rattle.cell.proofs.Ranges.{Moves, moves-moves, byte-gives, fixed-moves}
+use Rattle.field.specs.declared.fields.Deletion.{Deletion}
+use Rattle.field.proofs.Ranges.{Moves, moves-moves, byte-gives, fixed-moves}
 use Rattle.cell.proofs.Gives.{cell-gives}
 use Rattle.clustering.specs.Prefixes.{widthsAt}
 use Rattle.row.proofs.Gives.{RestOk, RowOk, row-gives}

@@ -13,7 +13,7 @@ use Rattle.varints.specs.Varints.{leading, low, varintAt}
 use Rattle.wire.specs.declared.refusal.Fault.the-variants.{PastEnd, LeftOver, BadRecord, OutOfRange}
 use Rattle.wire.specs.declared.refusal.Slice.the-variants.{Data, Schema, State, Bases as bases-slice}
 use Rattle.wire.specs.declared.times.Bases.{Bases}
-use Rattle.cell.specs.Fields.{live, byteAt, inAt, deletionAt, variableAt, valueAt}
+use Rattle.field.specs.Fields.{live, byteAt, inAt, deletionAt, variableAt, valueAt}
 use Rattle.cell.specs.Cells.{badFlags, flagsAt, lastAt, expiringAt, contentAt, timedAt, cellAt}
 use Rattle.cell.specs.declared.cells.Times.{Times}
 use Rattle.clustering.specs.Prefixes.{badHeader, headerAt, clusteringAt, valuesAt, skipped, prefixAt, widthsAt}

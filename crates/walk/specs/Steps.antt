@@ -13,9 +13,9 @@ use Rattle.wire.specs.Refusals.{Outcome, taken, refused, saidRefusal}
 use Rattle.wire.specs.declared.refusal.Fault.the-variants.{LeftOver, OutOfTurn, BadRecord}
 use Rattle.wire.specs.declared.refusal.Slice.the-variants.{Data, State}
 use Rattle.wire.specs.declared.times.Bases.{Bases}
-use Rattle.cell.specs.Fields.{byteAt, live}
+use Rattle.field.specs.Fields.{byteAt, live}
 use Rattle.cell.specs.Cells.{cellAt}
-use Rattle.cell.specs.declared.fields.Deletion.{Deletion}
+use Rattle.field.specs.declared.fields.Deletion.{Deletion}
 use Rattle.clustering.specs.Prefixes.{clusteringAt, widthsAt}
 use Rattle.row.specs.Rows.{rowAt}
 use Rattle.row.specs.declared.rows.Row.{Row}

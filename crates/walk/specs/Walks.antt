@@ -5,7 +5,7 @@ use mathlib.Core.Option.{Option, none, some}
 use lib.ListN.{length}
 use Rattle.wire.specs.Refusals.{Outcome, taken, refused}
 use Rattle.wire.specs.declared.times.Bases.{Bases}
-use Rattle.cell.specs.Fields.{live}
+use Rattle.field.specs.Fields.{live}
 use Rattle.schema.specs.declared.records.Counts.{Counts}
 use Rattle.walk.specs.Cursors.{atItems}
 use Rattle.walk.specs.Steps.{Answer, stepIn}

@@ -1,7 +1,7 @@
 use Rattle.wire.proofs.Choose.{cases}
 use Rattle.wire.proofs.Said.{reading}
 use Rattle.cell.proofs.Said.{answers}
-use Rattle.cell.specs.Fields.{valueAt}
+use Rattle.field.specs.Fields.{valueAt}
 use Rattle.cell.specs.Cells.{lastAt}
 use borrow.Author.Needs.{needs}
 use Rattle.cell.proofs.cells.read_last.Statement.{statement}

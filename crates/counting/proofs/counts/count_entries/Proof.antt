@@ -2,7 +2,7 @@ use Rattle.tables.proofs.Schemas.{tables}
 use Rattle.counting.proofs.Entries.{Entering, entering}
 use Rattle.counting.specs.Counted.{entriesCounted}
 use Rattle.contents.specs.Contents.{widthsOf, entriesAt}
-use Rattle.cell.specs.Fields.{live}
+use Rattle.field.specs.Fields.{live}
 use Prim.Native.Nat.{_-_}
 use lib.ListN.{length}
 use borrow.Author.Needs.{needs}

@@ -2,7 +2,7 @@ use Rattle.filling.proofs.PutEntries.{Storing, storing}
 use Rattle.filling.specs.Parts.{entriesWritten}
 use Rattle.taken.specs.Entries.{takenEntries}
 use Rattle.contents.specs.Contents.{widthsOf}
-use Rattle.cell.specs.Fields.{live}
+use Rattle.field.specs.Fields.{live}
 use lib.ListN.{length}
 use Prim.Native.Nat.{_-_}
 use borrow.Author.Needs.{needs}

@@ -1,7 +1,7 @@
 use Rattle.tables.proofs.Schemas.{tables}
 use Rattle.listing.proofs.PutEntries.{Storing, storing, storing-same, storing-end-same}
 use Rattle.contents.specs.Contents.{widthsOf, entriesAt}
-use Rattle.cell.specs.Fields.{live}
+use Rattle.field.specs.Fields.{live}
 use lib.ListN.{length}
 use Prim.Native.Nat.{_-_}
 use mathlib.Core.Path.{refl}

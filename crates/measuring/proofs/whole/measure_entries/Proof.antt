@@ -1,6 +1,6 @@
 use Prim.Native.Nat.{_-_}
 use lib.ListN.{length}
-use Rattle.cell.specs.Fields.{live}
+use Rattle.field.specs.Fields.{live}
 use Rattle.contents.specs.Contents.{widthsOf}
 use Rattle.taken.specs.Entries.{takenEntries}
 use Rattle.measuring.specs.Measured.{entriesMeasured}

@@ -1,6 +1,6 @@
 use Rattle.rowagain.proofs.KnownBodies.{bodies}
 use Rattle.wire.proofs.Choose.{cases}
-use Rattle.cell.specs.Fields.{deletionAt}
+use Rattle.field.specs.Fields.{deletionAt}
 use borrow.Author.Needs.{needs}
 use Rattle.rowagain.proofs.bodies.known_deletion.Statement.{statement}
 use Rattle.rowagain.proofs.bodies.known_deletion.Tie as tie

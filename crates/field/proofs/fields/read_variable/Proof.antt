@@ -1,11 +1,11 @@
 use Rattle.wire.proofs.Choose.{cases}
 use Rattle.wire.proofs.Said.{reading}
-use Rattle.cell.proofs.Said.{answers}
-use Rattle.cell.specs.Fields.{variableAt}
+use Rattle.field.proofs.Said.{answers}
+use Rattle.field.specs.Fields.{variableAt}
 use Rattle.varints.proofs.Varints.{varint-within}
 use borrow.Author.Needs.{needs}
-use Rattle.cell.proofs.fields.read_variable.Statement.{statement}
-use Rattle.cell.proofs.fields.read_variable.Tie as tie
+use Rattle.field.proofs.fields.read_variable.Statement.{statement}
+use Rattle.field.proofs.fields.read_variable.Tie as tie
 
 read-requires : tie.Need-read-requires
 read-requires c κs = search needs

@@ -1,10 +1,10 @@
 use Rattle.wire.proofs.Choose.{cases}
 use Rattle.wire.proofs.Said.{reading}
-use Rattle.cell.proofs.Said.{answers}
-use Rattle.cell.specs.Fields.{deletionAt}
+use Rattle.field.proofs.Said.{answers}
+use Rattle.field.specs.Fields.{deletionAt}
 use borrow.Author.Needs.{needs}
-use Rattle.cell.proofs.fields.read_deletion.Statement.{statement}
-use Rattle.cell.proofs.fields.read_deletion.Tie as tie
+use Rattle.field.proofs.fields.read_deletion.Statement.{statement}
+use Rattle.field.proofs.fields.read_deletion.Tie as tie
 
 read-timestamp-requires : tie.Need-read-timestamp-requires
 read-timestamp-requires c κs = search needs

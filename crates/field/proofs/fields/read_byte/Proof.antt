@@ -1,10 +1,10 @@
 use native.Mathlib.Omega.{arith}
 use Rattle.wire.proofs.Choose.{cases}
 use Rattle.wire.proofs.Said.{reading}
-use Rattle.cell.specs.Fields.{byteAt}
+use Rattle.field.specs.Fields.{byteAt}
 use borrow.Author.Needs.{needs}
-use Rattle.cell.proofs.fields.read_byte.Statement.{statement}
-use Rattle.cell.proofs.fields.read_byte.Tie as tie
+use Rattle.field.proofs.fields.read_byte.Statement.{statement}
+use Rattle.field.proofs.fields.read_byte.Tie as tie
 
 returns : tie.Need-returns
 unfolding byteAt

@@ -1,9 +1,9 @@
 use Rattle.wire.proofs.Choose.{cases}
 use Rattle.wire.proofs.Said.{reading}
-use Rattle.cell.proofs.Said.{answers}
+use Rattle.field.proofs.Said.{answers}
 use borrow.Author.Needs.{needs}
-use Rattle.cell.proofs.fields.read_fixed.Statement.{statement}
-use Rattle.cell.proofs.fields.read_fixed.Tie as tie
+use Rattle.field.proofs.fields.read_fixed.Statement.{statement}
+use Rattle.field.proofs.fields.read_fixed.Tie as tie
 
 returns : tie.Need-returns
 returns c = search (reading, answers, cases) depth 12

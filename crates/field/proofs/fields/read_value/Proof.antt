@@ -1,10 +1,10 @@
 use Rattle.wire.proofs.Choose.{cases}
 use Rattle.wire.proofs.Said.{reading}
-use Rattle.cell.proofs.Said.{answers}
-use Rattle.cell.specs.Fields.{valueAt}
+use Rattle.field.proofs.Said.{answers}
+use Rattle.field.specs.Fields.{valueAt}
 use borrow.Author.Needs.{needs}
-use Rattle.cell.proofs.fields.read_value.Statement.{statement}
-use Rattle.cell.proofs.fields.read_value.Tie as tie
+use Rattle.field.proofs.fields.read_value.Statement.{statement}
+use Rattle.field.proofs.fields.read_value.Tie as tie
 
 read-variable-requires : tie.Need-read-variable-requires
 read-variable-requires c κs = search needs

@@ -1,7 +1,7 @@
 // The fields that stand in rows, markers and cells.
 ghost use mathlib.Core.Path.{_≡_};
 ghost use Rattle.wire.specs.Got.{saidNum};
-ghost use Rattle.cell.specs.Fields.{byteAt, inAt, timestampAt, localAt, ttlAt, deletionAt, variableAt, widthAt, valueAt, saidPart, saidDeleted};
+ghost use Rattle.field.specs.Fields.{byteAt, inAt, timestampAt, localAt, ttlAt, deletionAt, variableAt, widthAt, valueAt, saidPart, saidDeleted};
 use wire::number::Num;
 use wire::refusal::Fault;
 use wire::times::Bases;
@@ -131,7 +131,8 @@ pub fn read_deletion(s: &[u8], at: usize, end: usize, b: Bases) -> Deleted
 }
 
 // A value after its length.
-pub(crate) fn read_variable(s: &[u8], at: usize, end: usize) -> Part
+// Internal, as the next: parts of `read_value`, for the cell, which reads its value without a call.
+pub fn read_variable(s: &[u8], at: usize, end: usize) -> Part
     ensures { λ r. ⌜ saidPart r ≡ variableAt (now (s .entry)) at end ⌝ }
 {
     match varints::read(s, at, end) {
@@ -159,7 +160,7 @@ pub(crate) fn read_variable(s: &[u8], at: usize, end: usize) -> Part
 }
 
 // A value of the width.
-pub(crate) fn read_fixed(s: &[u8], at: usize, end: usize, width: u8) -> Part
+pub fn read_fixed(s: &[u8], at: usize, end: usize, width: u8) -> Part
     ensures { λ r. ⌜ saidPart r ≡ widthAt width (now (s .entry)) at end ⌝ }
 {
     if end < at {

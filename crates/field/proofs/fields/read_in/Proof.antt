@@ -1,10 +1,10 @@
 use Rattle.wire.proofs.Choose.{cases}
 use Rattle.wire.proofs.Said.{reading}
-use Rattle.cell.proofs.Sums.{sums}
-use Rattle.cell.specs.Fields.{inAt}
+use Rattle.field.proofs.Sums.{sums}
+use Rattle.field.specs.Fields.{inAt}
 use borrow.Author.Needs.{needs}
-use Rattle.cell.proofs.fields.read_in.Statement.{statement}
-use Rattle.cell.proofs.fields.read_in.Tie as tie
+use Rattle.field.proofs.fields.read_in.Statement.{statement}
+use Rattle.field.proofs.fields.read_in.Tie as tie
 
 read-requires : tie.Need-read-requires
 read-requires c κs = search needs

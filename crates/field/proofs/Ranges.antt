@@ -11,10 +11,10 @@ use Rattle.wire.specs.Got.{Got}
 use Rattle.fixed.specs.BigEndian.{fixedAt}
 use Rattle.varints.specs.Varints.{varintAt, leading}
 use Rattle.wire.proofs.Gives.{Gives, gives-got, gives-bad, gives-on, gives-pick, gives-bind}
-use Rattle.cell.specs.Fields.{span, deletion, live, byteAt, inAt, deletionAt, variableAt, valueAt}
+use Rattle.field.specs.Fields.{span, deletion, live, byteAt, inAt, deletionAt, variableAt, valueAt}
 use Rattle.wire.specs.declared.times.Bases.{Bases}
-use Rattle.cell.specs.declared.fields.Deletion.{Deletion}
-use Rattle.cell.specs.declared.fields.Span.{Span}
+use Rattle.field.specs.declared.fields.Deletion.{Deletion}
+use Rattle.field.specs.declared.fields.Span.{Span}
 
 -- from at to n, before end
 pub record Goes (at end n : ℕ) : Type 0 where

@@ -9,12 +9,12 @@ use Rattle.wire.specs.Got.{Got, got, bad, on, Reader, _>>=_, ret}
 use Rattle.varints.specs.Varints.{varintAt}
 use Rattle.wire.specs.declared.refusal.Fault.the-variants.{PastEnd, OutOfRange}
 use Rattle.wire.specs.declared.times.Bases.{Bases}
-use Rattle.cell.specs.declared.fields.Deletion.{Deletion}
-use Rattle.cell.specs.declared.fields.Span.{Span}
-use Rattle.cell.specs.declared.fields.Part.{Part}
-use Rattle.cell.specs.declared.fields.Part.the-variants.{Lies, Refused as part-refused}
-use Rattle.cell.specs.declared.fields.Deleted.{Deleted}
-use Rattle.cell.specs.declared.fields.Deleted.the-variants.{By, Refused as deleted-refused}
+use Rattle.field.specs.declared.fields.Deletion.{Deletion}
+use Rattle.field.specs.declared.fields.Span.{Span}
+use Rattle.field.specs.declared.fields.Part.{Part}
+use Rattle.field.specs.declared.fields.Part.the-variants.{Lies, Refused as part-refused}
+use Rattle.field.specs.declared.fields.Deleted.{Deleted}
+use Rattle.field.specs.declared.fields.Deleted.the-variants.{By, Refused as deleted-refused}
 
 -- a part of the slice; a value or key that is empty has no place
 abbrev pub span : ℕ → ℕ → Span
