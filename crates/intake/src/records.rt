@@ -26,6 +26,7 @@ fn left_of(len: usize, at: usize) -> usize
 }
 
 // The kind of the record at at.
+// Internal, as the functions below: for the loops over a record table.
 pub fn kind_at(s: &[u8], at: usize) -> Num
     ensures { λ r. ⌜ saidNum r ≡ kindAt (now (s .entry)) at (length (now (s .entry))) ⌝ }
 {
@@ -60,6 +61,7 @@ fn read_plain(s: &[u8], at: usize) -> Record
 }
 
 // The record at at, whose turn it is.
+// Internal: as above.
 pub fn read_record(s: &[u8], at: usize, b: Bases, bytes: &[u8], turn: Turn) -> Record
     ensures { λ r. ⌜ saidRecord r ≡ recordAt b (wrongIn (now (bytes .entry)) turn) (now (s .entry)) at (length (now (s .entry))) ⌝ }
 {
@@ -79,6 +81,7 @@ pub fn read_record(s: &[u8], at: usize, b: Bases, bytes: &[u8], turn: Turn) -> R
 
 // The record at at, of a row. This and the next two are the most frequent: each has its own function, so that only what its kind uses is
 // tested; the kind first, which leaves little of the rest.
+// Internal: as above.
 pub fn read_row(s: &[u8], at: usize, b: Bases) -> Record
     ensures { λ r. ⌜ saidRecord r ≡ recordAt b (badRow 3) (now (s .entry)) at (length (now (s .entry))) ⌝ }
 {
@@ -105,6 +108,7 @@ pub fn read_row(s: &[u8], at: usize, b: Bases) -> Record
 }
 
 // The record at at, of the clustering value of a column of the width.
+// Internal: as above.
 pub fn read_value(s: &[u8], at: usize, b: Bases, bytes: &[u8], column: u64, width: u8) -> Record
     ensures { λ r. ⌜ saidRecord r ≡ recordAt b (badClustering (now (bytes .entry)) column width) (now (s .entry)) at (length (now (s .entry))) ⌝ }
 {
@@ -131,6 +135,7 @@ pub fn read_value(s: &[u8], at: usize, b: Bases, bytes: &[u8], column: u64, widt
 }
 
 // The record at at, of the cell of a column of the width.
+// Internal: as above.
 pub fn read_cell(s: &[u8], at: usize, b: Bases, bytes: &[u8], column: u64, width: u8) -> Record
     ensures { λ r. ⌜ saidRecord r ≡ recordAt b (badCell (now (bytes .entry)) column width) (now (s .entry)) at (length (now (s .entry))) ⌝ }
 {

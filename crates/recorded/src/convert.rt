@@ -13,6 +13,7 @@ use items::Item;
 use marker::markers::Deletions;
 
 // The deletion of a partition or row.
+// Internal, as the functions below: for the writer.
 pub fn deletion_of(i: Item) -> Deletion
     ensures { λ r. ⌜ r ≡ deletionOf i ⌝ }
 {
@@ -51,6 +52,7 @@ fn second_of(i: Item) -> Deletion
 }
 
 // The deletions of a marker.
+// Internal: as above.
 pub fn deletions_of(i: Item) -> Deletions
     ensures { λ r. ⌜ r ≡ deletionsOf i ⌝ }
 {
@@ -64,6 +66,7 @@ pub fn deletions_of(i: Item) -> Deletions
 }
 
 // The times of a row.
+// Internal: as above.
 pub fn times_of(i: Item) -> Times
     ensures { λ r. ⌜ r ≡ timesOf i ⌝ }
 {
@@ -95,6 +98,7 @@ pub fn times_of(i: Item) -> Times
 }
 
 // A cell, with the place of its value in the lent bytes.
+// Internal: as above.
 pub fn cell_of(i: Item) -> Cell
     ensures { λ r. ⌜ r ≡ cellOf i ⌝ }
 {

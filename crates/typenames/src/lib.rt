@@ -88,6 +88,7 @@ pub enum Skip {
 }
 
 // From at on, inside parentheses, where left more may open: up to the one that closes them. Each inner pair is a call with one less left.
+// Internal: of a type string.
 pub fn inside(s: &[u8], at: usize, left: u8) -> Skip
     ensures { λ r. ⌜ saidSkip (now (s .entry)) r ≡ inside left 0 (rest (now (s .entry)) at) ⌝ }
 {
