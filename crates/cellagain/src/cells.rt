@@ -10,13 +10,13 @@ use wire::number::Known;
 use wire::times::Bases;
 
 // A cell, and the place after it.
-pub struct Seen {
+pub struct KnownCell {
     pub cell: Cell,
     pub next: usize,
 }
 
 // The kind, local deletion time and TTL of a cell that is no tombstone, and the place after them.
-struct Till {
+struct KnownExpiry {
     kind: u8,
     local: u64,
     ttl: u64,
@@ -38,13 +38,13 @@ fn known_time(s: &[u8], at: usize, end: usize, b: Bases, row: Times, f: u64) -> 
 }
 
 // The expiry of a cell that has its own.
-fn known_own(s: &[u8], at: usize, end: usize, b: Bases) -> Till
+fn known_own(s: &[u8], at: usize, end: usize, b: Bases) -> KnownExpiry
     requires { ⌜ Took (ownAt b (now s) at end) ⌝ }
     ensures { λ r. ⌜ got (r .kind, (r .local, r .ttl)) (r .next) ≡ ownAt b (now (s .entry)) at end ⌝ }
 {
     let local = fields::known_sum(s, at, end, 0, 2147483646, b.local);
     let ttl = fields::known_sum(s, local.next, end, 1, 2147483647, b.ttl);
-    Till {
+    KnownExpiry {
         kind: 1,
         local: local.value,
         ttl: ttl.value,
@@ -53,13 +53,13 @@ fn known_own(s: &[u8], at: usize, end: usize, b: Bases) -> Till
 }
 
 // The expiry of a cell that is no tombstone.
-fn known_lasting(s: &[u8], at: usize, end: usize, b: Bases, row: Times, f: u64) -> Till
+fn known_lasting(s: &[u8], at: usize, end: usize, b: Bases, row: Times, f: u64) -> KnownExpiry
     requires { ⌜ Took (lastingAt b row f (now s) at end) ⌝ }
     ensures { λ r. ⌜ got (r .kind, (r .local, r .ttl)) (r .next) ≡ lastingAt b row f (now (s .entry)) at end ⌝ }
 {
     if f / 2 % 2 == 1 {
         if f / 16 % 2 == 1 {
-            return Till {
+            return KnownExpiry {
                 kind: 1,
                 local: row.local,
                 ttl: row.ttl,
@@ -68,7 +68,7 @@ fn known_lasting(s: &[u8], at: usize, end: usize, b: Bases, row: Times, f: u64) 
         }
         return known_own(s, at, end, b);
     }
-    Till {
+    KnownExpiry {
         kind: 0,
         local: 0,
         ttl: 0,
@@ -87,12 +87,12 @@ fn known_last(
     timestamp: u64,
     local: u64,
     ttl: u64,
-) -> Seen
+) -> KnownCell
     requires { ⌜ Took (lastAt width f kind timestamp local ttl (now s) at end) ⌝ }
     ensures { λ r. ⌜ got (r .cell) (r .next) ≡ lastAt width f kind timestamp local ttl (now (s .entry)) at end ⌝ }
 {
     if f / 4 % 2 == 1 {
-        return Seen {
+        return KnownCell {
             cell: Cell {
                 kind,
                 timestamp,
@@ -103,9 +103,9 @@ fn known_last(
             next: at,
         };
     }
-    let lain = fields::known_value(s, at, end, width);
-    let value = lain.value;
-    Seen {
+    let known = fields::known_value(s, at, end, width);
+    let value = known.value;
+    KnownCell {
         cell: Cell {
             kind,
             timestamp,
@@ -113,7 +113,7 @@ fn known_last(
             ttl,
             value,
         },
-        next: lain.next,
+        next: known.next,
     }
 }
 
@@ -127,13 +127,13 @@ fn known_content(
     row: Times,
     f: u64,
     timestamp: u64,
-) -> Seen
+) -> KnownCell
     requires { ⌜ Took (contentAt b row width f timestamp (now s) at end) ⌝ }
     ensures { λ r. ⌜ got (r .cell) (r .next) ≡ contentAt b row width f timestamp (now (s .entry)) at end ⌝ }
 {
     if f % 2 == 1 {
         let local = fields::known_sum(s, at, end, 0, 2147483646, b.local);
-        return Seen {
+        return KnownCell {
             cell: Cell {
                 kind: 2,
                 timestamp,
@@ -144,23 +144,23 @@ fn known_content(
             next: local.next,
         };
     }
-    let till = known_lasting(s, at, end, b, row, f);
+    let expiry = known_lasting(s, at, end, b, row, f);
     known_last(
         s,
-        till.next,
+        expiry.next,
         end,
         width,
         f,
-        till.kind,
+        expiry.kind,
         timestamp,
-        till.local,
-        till.ttl,
+        expiry.local,
+        expiry.ttl,
     )
 }
 
 // The cell at at, before end, of a column of the width, in a row of these times.
 // Internal: for code that has read the same before.
-pub fn known_cell(s: &[u8], at: usize, end: usize, width: u8, b: Bases, row: Times) -> Seen
+pub fn known_cell(s: &[u8], at: usize, end: usize, width: u8, b: Bases, row: Times) -> KnownCell
     requires { ⌜ Took (cellAt b row width (now s) at end) ⌝ }
     ensures { λ r. ⌜ got (r .cell) (r .next) ≡ cellAt b row width (now (s .entry)) at end ⌝ }
 {

@@ -6,7 +6,7 @@ use field::fields::Span;
 use wire::number::Known;
 
 // A value, and the place after it.
-pub struct Lain {
+pub struct KnownValue {
     pub value: Span,
     pub next: usize,
 }
@@ -39,19 +39,19 @@ pub fn known_sum(s: &[u8], at: usize, end: usize, lo: u64, hi: u64, base: u64) -
 }
 
 // A value after its length.
-fn known_variable(s: &[u8], at: usize, end: usize) -> Lain
+fn known_variable(s: &[u8], at: usize, end: usize) -> KnownValue
     requires { ⌜ Took (variableAt (now s) at end) ⌝ }
     ensures { λ r. ⌜ got (r .value) (r .next) ≡ variableAt (now (s .entry)) at end ⌝ }
 {
     let announced = varints::known(s, at, end);
     if announced.value == 0 {
-        return Lain {
+        return KnownValue {
             value: Span { start: 0, len: 0 },
             next: announced.next,
         };
     }
     let len = announced.value as usize;
-    Lain {
+    KnownValue {
         value: Span {
             start: announced.next,
             len,
@@ -62,7 +62,7 @@ fn known_variable(s: &[u8], at: usize, end: usize) -> Lain
 
 // A value of the width, or (255) after its length.
 // Internal: as above.
-pub fn known_value(s: &[u8], at: usize, end: usize, width: u8) -> Lain
+pub fn known_value(s: &[u8], at: usize, end: usize, width: u8) -> KnownValue
     requires { ⌜ Took (valueAt width (now s) at end) ⌝ }
     ensures { λ r. ⌜ got (r .value) (r .next) ≡ valueAt width (now (s .entry)) at end ⌝ }
 {
@@ -70,7 +70,7 @@ pub fn known_value(s: &[u8], at: usize, end: usize, width: u8) -> Lain
         return known_variable(s, at, end);
     }
     let len = width as usize;
-    Lain {
+    KnownValue {
         value: Span { start: at, len },
         next: at + len,
     }

@@ -69,10 +69,10 @@ pub(crate) fn put_cells(
         column += 16 * (skipped as usize);
         i += skipped as u64;
         let width = c[column + 3];
-        let seen = cells::known_cell(s, p, stop, width, b, times);
-        let cell = seen.cell;
+        let known = cells::known_cell(s, p, stop, width, b, times);
+        let cell = known.cell;
         let item = items::cell_item(i, cell);
-        p = seen.next;
+        p = known.next;
         column += 16;
         i += 1;
         left = (left >> skipped) / 2;
@@ -101,11 +101,11 @@ pub(crate) fn put_values(
     let mut out = to;
     while i < k {
         let width = c[column + 3];
-        let lain = prefixes::known_clustering(s, p, s.len(), width, h);
-        let value = lain.value;
+        let known = prefixes::known_clustering(s, p, s.len(), width, h);
+        let value = known.value;
         let item = items::value_item(i, value);
         out = records::put_record(d, out, item);
-        p = lain.next;
+        p = known.next;
         column += 16;
         i += 1;
         h = h / 4;
@@ -197,7 +197,7 @@ fn put_row(
     requires { ⌜ Table (length (now c)) k × Fitting (rowEntryAt (widthsOf (now c) k) b first (now s) at (length (now s))) (entryOf (rowEntryAt (widthsOf (now c) k) b first (now s) at (length (now s)))) (now d) to ⌝ }
     ensures { λ r. ⌜ PutsEntry (rowEntryAt (widthsOf (now (c .entry)) k) b first (now (s .entry)) at (length (now (s .entry)))) (now (d .entry)) (now (d .exit)) to r ⌝ }
 {
-    let stood = rows::known_row(
+    let known = rows::known_row(
         s,
         at,
         s.len(),
@@ -208,14 +208,14 @@ fn put_row(
         first,
         b,
     );
-    let row = stood.row;
+    let row = known.row;
     let y = row.body;
     let stop = y.stop;
     if row.extended == 1 {
-        let out = put_static(c, k, b, s, row, stood.next, d, to);
+        let out = put_static(c, k, b, s, row, known.next, d, to);
         return Behind { next: stop, out };
     }
-    let out = put_plain(c, k, b, s, row, stood.next, d, to);
+    let out = put_plain(c, k, b, s, row, known.next, d, to);
     Behind { next: stop, out }
 }
 

@@ -14,19 +14,19 @@ use wire::number::Known;
 use wire::times::Bases;
 
 // The row's times, and the place after them.
-pub struct Lived {
+pub struct KnownTimes {
     pub times: Times,
     pub next: usize,
 }
 
 // A deletion, and the place after it.
-pub struct Gone {
+pub struct KnownDeletion {
     pub deletion: Deletion,
     pub next: usize,
 }
 
 // The body, and the place of its first cell.
-pub struct Filled {
+pub struct KnownBody {
     pub body: Body,
     pub next: usize,
 }
@@ -46,13 +46,13 @@ fn known_sizes(s: &[u8], at: usize, end: usize) -> Known
 }
 
 // The expiry that follows the timestamp.
-fn known_expiry(s: &[u8], at: usize, end: usize, b: Bases, timestamp: u64) -> Lived
+fn known_expiry(s: &[u8], at: usize, end: usize, b: Bases, timestamp: u64) -> KnownTimes
     requires { ⌜ Took (expiryAt b timestamp (now s) at end) ⌝ }
     ensures { λ r. ⌜ got (r .times) (r .next) ≡ expiryAt b timestamp (now (s .entry)) at end ⌝ }
 {
     let ttl = fields::known_sum(s, at, end, 1, 2147483647, b.ttl);
     let local = fields::known_sum(s, ttl.next, end, 0, 2147483646, b.local);
-    Lived {
+    KnownTimes {
         times: Times {
             timed: 1,
             timestamp,
@@ -65,7 +65,7 @@ fn known_expiry(s: &[u8], at: usize, end: usize, b: Bases, timestamp: u64) -> Li
 }
 
 // The liveness of a row with the flags f.
-fn known_liveness(s: &[u8], at: usize, end: usize, b: Bases, f: u64) -> Lived
+fn known_liveness(s: &[u8], at: usize, end: usize, b: Bases, f: u64) -> KnownTimes
     requires { ⌜ Took (livenessAt b f (now s) at end) ⌝ }
     ensures { λ r. ⌜ got (r .times) (r .next) ≡ livenessAt b f (now (s .entry)) at end ⌝ }
 {
@@ -74,7 +74,7 @@ fn known_liveness(s: &[u8], at: usize, end: usize, b: Bases, f: u64) -> Lived
         if f / 8 % 2 == 1 {
             return known_expiry(s, time.next, end, b, time.value);
         }
-        return Lived {
+        return KnownTimes {
             times: Times {
                 timed: 1,
                 timestamp: time.value,
@@ -85,7 +85,7 @@ fn known_liveness(s: &[u8], at: usize, end: usize, b: Bases, f: u64) -> Lived
             next: time.next,
         };
     }
-    Lived {
+    KnownTimes {
         times: Times {
             timed: 0,
             timestamp: 0,
@@ -98,13 +98,13 @@ fn known_liveness(s: &[u8], at: usize, end: usize, b: Bases, f: u64) -> Lived
 }
 
 // A deletion that stands.
-fn known_deletion(s: &[u8], at: usize, end: usize, b: Bases) -> Gone
+fn known_deletion(s: &[u8], at: usize, end: usize, b: Bases) -> KnownDeletion
     requires { ⌜ Took (deletionAt b (now s) at end) ⌝ }
     ensures { λ r. ⌜ got (r .deletion) (r .next) ≡ deletionAt b (now (s .entry)) at end ⌝ }
 {
     let mark = fields::known_sum(s, at, end, 1, 18446744073709551615, b.timestamp);
     let local = fields::known_sum(s, mark.next, end, 0, 2147483646, b.local);
-    Gone {
+    KnownDeletion {
         deletion: Deletion {
             deleted: 1,
             mark: mark.value,
@@ -115,14 +115,14 @@ fn known_deletion(s: &[u8], at: usize, end: usize, b: Bases) -> Gone
 }
 
 // The deletion of a row with the flags f.
-fn known_row_deletion(s: &[u8], at: usize, end: usize, b: Bases, f: u64) -> Gone
+fn known_row_deletion(s: &[u8], at: usize, end: usize, b: Bases, f: u64) -> KnownDeletion
     requires { ⌜ Took (rowDeletionAt b f (now s) at end) ⌝ }
     ensures { λ r. ⌜ got (r .deletion) (r .next) ≡ rowDeletionAt b f (now (s .entry)) at end ⌝ }
 {
     if f / 16 % 2 == 1 {
         return known_deletion(s, at, end, b);
     }
-    Gone {
+    KnownDeletion {
         deletion: Deletion {
             deleted: 0,
             mark: 0,
@@ -152,16 +152,16 @@ fn known_present(s: &[u8], at: usize, end: usize, k: u64, f: u64) -> Known
 }
 
 // What a body that ends at stop holds before the cells of k columns.
-fn known_content(s: &[u8], at: usize, stop: usize, b: Bases, k: u64, f: u64) -> Filled
+fn known_content(s: &[u8], at: usize, stop: usize, b: Bases, k: u64, f: u64) -> KnownBody
     requires { ⌜ (k ≤ 63) × Took (contentAt b k f stop (now s) at stop) ⌝ }
     ensures { λ r. ⌜ got (r .body) (r .next) ≡ contentAt b k f stop (now (s .entry)) at stop ⌝ }
 {
-    let lived = known_liveness(s, at, stop, b, f);
-    let gone = known_row_deletion(s, lived.next, stop, b, f);
-    let cells = known_present(s, gone.next, stop, k, f);
-    let times = lived.times;
-    let deletion = gone.deletion;
-    Filled {
+    let liveness = known_liveness(s, at, stop, b, f);
+    let deleted = known_row_deletion(s, liveness.next, stop, b, f);
+    let cells = known_present(s, deleted.next, stop, k, f);
+    let times = liveness.times;
+    let deletion = deleted.deletion;
+    KnownBody {
         body: Body {
             stop,
             times,
@@ -173,7 +173,7 @@ fn known_content(s: &[u8], at: usize, stop: usize, b: Bases, k: u64, f: u64) -> 
 }
 
 // The sizes, and the body of a row with the flags f before the cells of k columns.
-pub(crate) fn known_body(s: &[u8], at: usize, end: usize, b: Bases, k: u64, f: u64) -> Filled
+pub(crate) fn known_body(s: &[u8], at: usize, end: usize, b: Bases, k: u64, f: u64) -> KnownBody
     requires { ⌜ (k ≤ 63) × Took (bodyAt b k f (now s) at end) ⌝ }
     ensures { λ r. ⌜ got (r .body) (r .next) ≡ bodyAt b k f (now (s .entry)) at end ⌝ }
 {

@@ -5,25 +5,25 @@ ghost use lib.ListN.{length};
 ghost use Rattle.wire.specs.Got.{got, Took};
 ghost use Rattle.clustering.specs.Prefixes.{headerAt, clusteringAt, valuesAt, prefixAt, widthsAt, skipped};
 use cellagain::fields;
-use cellagain::fields::Lain;
+use cellagain::fields::KnownValue;
 use clustering::prefixes::Prefix;
 use field::fields::Span;
 use wire::number::Known;
 
 // Header and first value, and the place after the values.
-pub struct Headed {
+pub struct KnownPrefix {
     pub prefix: Prefix,
     pub next: usize,
 }
 
 // The value of a column of the width, whose bits are the lowest of the header.
 // Internal: for code that has read the same before.
-pub fn known_clustering(s: &[u8], at: usize, end: usize, width: u8, header: u64) -> Lain
+pub fn known_clustering(s: &[u8], at: usize, end: usize, width: u8, header: u64) -> KnownValue
     requires { ⌜ Took (clusteringAt width header (now s) at end) ⌝ }
     ensures { λ r. ⌜ got (r .value) (r .next) ≡ clusteringAt width header (now (s .entry)) at end ⌝ }
 {
     if header % 2 == 1 {
-        return Lain {
+        return KnownValue {
             value: Span { start: 0, len: 0 },
             next: at,
         };
@@ -78,13 +78,13 @@ pub(crate) fn known_prefix(
     schema: &[u8],
     first: usize,
     count: u64,
-) -> Headed
+) -> KnownPrefix
     requires { ⌜ (first + 16 * count ≤ length (now schema)) × Took (prefixAt (widthsAt (now schema) first count) (now s) at end) ⌝ }
     ensures { λ r. ⌜ got (r .prefix) (r .next) ≡ prefixAt (widthsAt (now (schema .entry)) first count) (now (s .entry)) at end ⌝ }
 {
     let header = known_header(s, at, end, count);
     let next = skip_known(s, header.next, end, schema, first, count, header.value);
-    Headed {
+    KnownPrefix {
         prefix: Prefix {
             header: header.value,
             values: header.next,

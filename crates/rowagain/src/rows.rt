@@ -15,7 +15,7 @@ use wire::number::Known;
 use wire::times::Bases;
 
 // A row, and the place of its first cell.
-pub struct Stood {
+pub struct KnownRow {
     pub row: Row,
     pub next: usize,
 }
@@ -44,15 +44,15 @@ fn known_rest(
     start: usize,
     f: u64,
     x: u64,
-) -> Stood
+) -> KnownRow
     requires { ⌜ (16 + 16 * count ≤ length (now schema)) × (k ≤ 63) × Took (restAt b (widthsAt (now schema) 16 count) k start f x (now s) at end) ⌝ }
     ensures { λ r. ⌜ got (r .row) (r .next) ≡ restAt b (widthsAt (now (schema .entry)) 16 count) k start f x (now (s .entry)) at end ⌝ }
 {
-    let headed = prefixes::known_prefix(s, at, end, schema, 16, count);
-    let filled = bodies::known_body(s, headed.next, end, b, k, f);
-    let prefix = headed.prefix;
-    let body = filled.body;
-    Stood {
+    let clustering = prefixes::known_prefix(s, at, end, schema, 16, count);
+    let content = bodies::known_body(s, clustering.next, end, b, k, f);
+    let prefix = clustering.prefix;
+    let body = content.body;
+    KnownRow {
         row: Row {
             start,
             flags: f,
@@ -60,7 +60,7 @@ fn known_rest(
             prefix,
             body,
         },
-        next: filled.next,
+        next: content.next,
     }
 }
 
@@ -77,7 +77,7 @@ pub fn known_row(
     regulars: u64,
     first: u8,
     b: Bases,
-) -> Stood
+) -> KnownRow
     requires { ⌜ (16 + 16 * count ≤ length (now schema)) × (statics ≤ 63) × (regulars ≤ 63) × Took (rowAt b (widthsAt (now schema) 16 count) statics regulars first (now s) at end) ⌝ }
     ensures { λ r. ⌜ got (r .row) (r .next) ≡ rowAt b (widthsAt (now (schema .entry)) 16 count) statics regulars first (now (s .entry)) at end ⌝ }
 {
