@@ -2,7 +2,9 @@
 use Rattle.std.proofs.Common.{◌≡◌, ℕ, ◌+◌, ◌-◌, ◌^◌, ◌<◌, ◌≤◌, Bool, true, false, leb, List, [], ◌++◌, length, get_or, take, drop, set, sym, refl, ap, ◌∙◌, append-nil, add-zero, arith, length-append, length-drop, length-set, take-append-drop, length-take, get_or-drop, get_or-take, w64, Fits, le-ltb, le-leb}
 use borrow.Author.Tests.{lt-leb}
 use Rattle.common.specs.Choose.{pick}
-use Rattle.common.specs.Store.{splice, part, Room, Puts, shown}
+use Rattle.common.specs.Store.{splice, part, Room, Puts, stored, storing, Stores, shown}
+use Rattle.common.specs.declared.number.Stored.{Stored}
+use Rattle.common.specs.declared.number.Stored.TheVariants.{At, Full}
 use Rattle.common.proofs.Choose.{pick_yes, pick_no}
 use Rattle.common.proofs.Splices.{filled, filled_none, filled_more, filled_all, splice_splice, length_splice}
 
@@ -47,6 +49,24 @@ pub ruleset puts = (room_left, room_right, puts_same, puts_none, puts_then, puts
 
 pub room_is : (d : List ℕ) (at : ℕ) (w : List ℕ) (n : ℕ) → length w ≡ n → at ≤ length d → n ≤ length d - at → Room d at w
 room_is d at w n l h k = record { fits = omega arith }
+
+-- ---- stores that test whether there is room
+stores_not : (d : List ℕ) (at : ℕ) (w : List ℕ) → leb (at + length w) (length d) ≡ false → Stores d d at w Full
+unfolding stored storing
+stores_not d at w h = record { answer = pick_no _ _ _ _ h refl; buffer = pick_no _ _ _ _ h refl }
+
+pub stores_over : (d : List ℕ) (at : ℕ) (w : List ℕ) (n : ℕ) → length w ≡ n → at ≤ length d → length d - at < n → Stores d d at w Full
+stores_over d at w n l k h = stores_not d at w (lt-leb (at + length w) (length d) (omega arith))
+
+pub stores_past : (d : List ℕ) (at : ℕ) (w : List ℕ) → length d < at → Stores d d at w Full
+stores_past d at w h = stores_not d at w (lt-leb (at + length w) (length d) (omega arith))
+
+pub stores_fits : (d d' : List ℕ) (at : ℕ) (w : List ℕ) (n : ℕ) → Room d at w → Puts d d' at w n → Stores d d' at w (At n)
+unfolding stored storing
+stores_fits d d' at w n r p = record {
+  answer = pick_yes _ _ _ _ (le-leb (at + length w) (length d) r.fits) (ap At p.next);
+  buffer = pick_yes _ _ _ _ (le-leb (at + length w) (length d) r.fits) p.stores;
+}
 
 -- ---- a loop that stores the list w element by element: the first i stand in d, which was d₀
 pub record Storing (w d₀ d : List ℕ) (at i : ℕ) : Type 0 where

@@ -4,7 +4,7 @@ use Rattle.common.specs.declared.refusal.Fault.{Fault}
 use Rattle.common.specs.declared.refusal.Fault.TheVariants.{OverLimit, PastEnd, LeftOver, BadFlags, OutOfRange, OutOfTurn, NotCarried, TooMany, Repeated, BadRecord, Differs, RangeMarker, NoRoom}
 use Rattle.common.specs.declared.refusal.Refusal.{Refusal}
 use Rattle.common.specs.declared.refusal.Slice.{Slice}
-use Rattle.common.specs.declared.refusal.Slice.TheVariants.{Statistics, Scylla, Data, Schema, Records, Bytes, Output, Bases, State, StatisticsB, DataB, SchemaB, BasesB}
+use Rattle.common.specs.declared.refusal.Slice.TheVariants.{Statistics, Scylla, Data, Schema, Records, Bytes, Output, Bases, State}
 
 -- "Numbers given back"
 abbrev pub fault_number : Fault → ℕ
@@ -22,7 +22,7 @@ fault_number Differs = 11
 fault_number RangeMarker = 12
 fault_number NoRoom = 13
 
--- the number of a slice: of B's in a merge 32 more than the plain one
+-- the number of a slice
 abbrev pub slice_number : Slice → ℕ
 slice_number Statistics = 1
 slice_number Scylla = 2
@@ -33,10 +33,6 @@ slice_number Bytes = 6
 slice_number Output = 7
 slice_number Bases = 8
 slice_number State = 9
-slice_number StatisticsB = 33
-slice_number DataB = 35
-slice_number SchemaB = 36
-slice_number BasesB = 40
 
 -- what a call answers: what it read or made, or a refusal with its slice and place
 pub data Outcome (A : Type 0) : Type 0 where

@@ -1,4 +1,6 @@
 // What every part of the library stands on: what a refusal says, what reading a number answers, base times, and parts of a slice.
+#![tactic(auto)]
+
 pub mod refusal; // refusal.rt: faults and slices with document 01's numbers
 pub mod number; // number.rt: what calls answer that read a number or store bytes
 pub mod times; // times.rt: base times

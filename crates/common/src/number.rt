@@ -1,4 +1,4 @@
-// What reading a number answers.
+// What calls answer that read a number or store bytes.
 use crate::refusal::Fault;
 
 // The answer of every call that reads one number.
@@ -14,4 +14,13 @@ pub enum Num {
 pub struct Known {
     pub value: u64,
     pub next: usize,
+}
+
+// The answer of every call that stores bytes at a place, where they fit.
+#[derive(Drop)]
+pub enum Stored {
+    // Stored: the place after them.
+    At(usize),
+    // They do not fit, and nothing was stored.
+    Full,
 }

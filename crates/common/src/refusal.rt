@@ -20,7 +20,7 @@ pub enum Fault {
     NoRoom, // 13: the output is longer than the buffer
 }
 
-// The slices that calls are lent. A merge is lent two of some: there the plain names are A's.
+// The slices that calls are lent. A merge has two of some, and says beside the refusal which.
 #[derive(Drop)]
 pub enum Slice {
     Statistics,
@@ -32,10 +32,6 @@ pub enum Slice {
     Output,
     Bases,
     State,
-    StatisticsB,
-    DataB,
-    SchemaB,
-    BasesB,
 }
 
 // A refusal. The place is the first byte of the field or record concerned, but for NoRoom the length needed.
@@ -83,9 +79,5 @@ pub fn slice_number(slice: Slice) -> u8
         Slice::Output => 7,
         Slice::Bases => 8,
         Slice::State => 9,
-        Slice::StatisticsB => 33,
-        Slice::DataB => 35,
-        Slice::SchemaB => 36,
-        Slice::BasesB => 40,
     }
 }

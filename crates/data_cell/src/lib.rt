@@ -1,2 +1,3 @@
 // Cells of Data.
+#![tactic(auto)]
 pub mod cells; // cells.rt: one cell

@@ -1,4 +1,5 @@
 // What a step hands out: the numbers of a record.
+#![tactic(auto)]
 ghost use Rattle.std.specs.Prelude.{◌≡◌, ◌-◌};
 ghost use Rattle.data_items.specs.Items.{mark_of, time_of, partition_flags, cell_flags, partition_item, row_item, marker_item, value_item, cell_item, end_item, shows_value, value_of};
 

@@ -1,1 +1,2 @@
 // What is signed for, as theorems over the public definitions: laws alone, no function.
+#![tactic(auto)]

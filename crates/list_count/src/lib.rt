@@ -1,2 +1,3 @@
 // How many items Data lists.
+#![tactic(auto)]
 pub mod counts; // counts.rt: the loops over cells, entries and partitions

@@ -1,10 +1,12 @@
 // Fixed numbers: big-endian, of any width up to eight bytes.
+#![tactic(auto)]
+
 ghost use Rattle.std.specs.Prelude.{◌≡◌, ◌+◌, ◌*◌, ◌/◌, ◌%◌, ◌^◌, ◌≤◌, ◌<◌, length, get_or};
 ghost use Rattle.common.specs.Got.{said_num};
 ghost use Rattle.number_fixed.specs.BigEndian.{big_endian, bytes_of, swap_four, swap_eight, four_of, little_four, fixed_at};
-ghost use Rattle.common.specs.Store.{Room, Puts};
+ghost use Rattle.common.specs.Store.{Room, Puts, Stores};
 
-use common::number::Num;
+use common::number::{Num, Stored};
 use common::refusal::Fault;
 
 // The number spelled by acc and the n bytes from at on.
@@ -213,4 +215,17 @@ pub fn put_in(d: &mut [u8], at: usize, n: usize, x: u64) -> usize
         return put_one(d, at, x);
     }
     put_each(d, at, n, x)
+}
+
+// Stores the n lowest bytes of x at at, highest first, where they fit.
+pub fn put(d: &mut [u8], at: usize, n: usize, x: u64) -> Stored
+    ensures { Stores d.old d.new at (bytes_of x n) result }
+{
+    if d.len() < at {
+        return Stored::Full;
+    }
+    if d.len() - at < n {
+        return Stored::Full;
+    }
+    Stored::At(put_in(d, at, n, x))
 }

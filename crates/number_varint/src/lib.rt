@@ -1,10 +1,12 @@
 // Varints.
+#![tactic(auto)]
+
 ghost use Rattle.std.specs.Prelude.{◌≡◌, ◌+◌, ◌-◌, ◌/◌, ◌^◌, length};
 ghost use Rattle.common.specs.Got.{got, said_num, Took};
 ghost use Rattle.number_varint.specs.Varints.{leading, varint_at, extra, shortest};
-ghost use Rattle.common.specs.Store.{Room, Puts};
+ghost use Rattle.common.specs.Store.{Room, Puts, Stores};
 
-use common::number::{Known, Num};
+use common::number::{Known, Num, Stored};
 use common::refusal::Fault;
 
 // How many one bits lead b.
@@ -115,4 +117,17 @@ pub fn put_in(d: &mut [u8], at: usize, x: u64) -> usize
     let n = extra_bytes(x);
     d[at] = first_byte(x, n);
     number_fixed::put_in(d, at + 1, n, x)
+}
+
+// Stores the shortest varint of x at at, where it fits.
+pub fn put(d: &mut [u8], at: usize, x: u64) -> Stored
+    ensures { Stores d.old d.new at (shortest x) result }
+{
+    if d.len() < at {
+        return Stored::Full;
+    }
+    if d.len() - at < len(x) {
+        return Stored::Full;
+    }
+    Stored::At(put_in(d, at, x))
 }

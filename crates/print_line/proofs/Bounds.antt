@@ -16,7 +16,7 @@ use Rattle.common.specs.Store.{Room, Puts}
 use Rattle.common.specs.declared.refusal.Fault.{Fault}
 use Rattle.common.specs.declared.refusal.Fault.TheVariants.{OverLimit, PastEnd, LeftOver, BadFlags, OutOfRange, OutOfTurn, NotCarried, TooMany, Repeated, BadRecord, Differs, RangeMarker, NoRoom}
 use Rattle.common.specs.declared.refusal.Slice.{Slice}
-use Rattle.common.specs.declared.refusal.Slice.TheVariants.{Statistics, Scylla, Data, Schema, Records, Bytes, Output, Bases, State, StatisticsB, DataB, SchemaB, BasesB}
+use Rattle.common.specs.declared.refusal.Slice.TheVariants.{Statistics, Scylla, Data, Schema, Records, Bytes, Output, Bases, State}
 use Rattle.common.proofs.Choose.{pick_ind}
 use Rattle.common.proofs.Puts.{room_left, room_right, puts_then}
 use Rattle.data_items.specs.declared.Item.{Item}
@@ -115,7 +115,7 @@ fault_most Differs = omega arith
 fault_most RangeMarker = omega arith
 fault_most NoRoom = omega arith
 
-name_most : (z : Slice) → length (slice_name z) ≤ 11
+name_most : (z : Slice) → length (slice_name z) ≤ 10
 name_most Statistics = omega arith
 name_most Scylla = omega arith
 name_most Data = omega arith
@@ -125,10 +125,6 @@ name_most Bytes = omega arith
 name_most Output = omega arith
 name_most Bases = omega arith
 name_most State = omega arith
-name_most StatisticsB = omega arith
-name_most DataB = omega arith
-name_most SchemaB = omega arith
-name_most BasesB = omega arith
 
 module _ (f : Fault) (z : Slice) (p : ℕ) (h : Fits w64 p) where
   pub refusal_most : length (refusal_line f z p) ≤ 252

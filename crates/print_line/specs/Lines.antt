@@ -4,7 +4,7 @@ use Rattle.text.specs.Text.{text}
 use Rattle.common.specs.Refusals.{fault_number}
 use Rattle.common.specs.declared.refusal.Fault.{Fault}
 use Rattle.common.specs.declared.refusal.Slice.{Slice}
-use Rattle.common.specs.declared.refusal.Slice.TheVariants.{Statistics, Scylla, Data, Schema, Records, Bytes, Output, Bases, State, StatisticsB, DataB, SchemaB, BasesB}
+use Rattle.common.specs.declared.refusal.Slice.TheVariants.{Statistics, Scylla, Data, Schema, Records, Bytes, Output, Bases, State}
 use Rattle.data_items.specs.declared.Item.{Item}
 use Rattle.print_line.specs.Numbers.{decimal, signed}
 
@@ -47,10 +47,6 @@ slice_name Bytes = text "bytes"
 slice_name Output = text "output"
 slice_name Bases = text "bases"
 slice_name State = text "state"
-slice_name StatisticsB = text "statisticsB"
-slice_name DataB = text "dataB"
-slice_name SchemaB = text "schemaB"
-slice_name BasesB = text "basesB"
 
 -- "refused N SLICE PLACE"
 unfoldable pub refusal_line : Fault → Slice → ℕ → List ℕ

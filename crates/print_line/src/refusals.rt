@@ -31,10 +31,6 @@ fn put_slice(d: &mut [u8], at: usize, z: Slice) -> usize
         Slice::Output => put_text(d, at, b"output"),
         Slice::Bases => put_text(d, at, b"bases"),
         Slice::State => put_text(d, at, b"state"),
-        Slice::StatisticsB => put_text(d, at, b"statisticsB"),
-        Slice::DataB => put_text(d, at, b"dataB"),
-        Slice::SchemaB => put_text(d, at, b"schemaB"),
-        Slice::BasesB => put_text(d, at, b"basesB"),
     }
 }
 

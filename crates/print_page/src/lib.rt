@@ -1,4 +1,5 @@
 // The text of a walk through Data, a page at a time.
+#![tactic(auto)]
 ghost use Rattle.std.specs.Prelude.{◌≤◌, length};
 ghost use Rattle.call_check.specs.Tables.{Table};
 ghost use Rattle.print_page.specs.Pages.{page_in, page_at, len_of, Fills};

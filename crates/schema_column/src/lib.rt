@@ -1,4 +1,5 @@
 // One column of a schema, when two schemas are equal, and which clustering types have an order.
+#![tactic(auto)]
 ghost use Rattle.std.specs.Prelude.{◌≡◌, ◌+◌, ◌≤◌, length};
 ghost use Rattle.schema_column.specs.Columns.{column_at, column_of, name_of, same_column, same_schemas, unordered_of};
 

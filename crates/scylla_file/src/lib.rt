@@ -1,4 +1,5 @@
 // Scylla.db, read in full: feature bits, run identifier and where each known component stands.
+#![tactic(auto)]
 ghost use Rattle.std.specs.Prelude.{◌≡◌, length};
 ghost use Rattle.scylla_sharding.specs.Regions.{times};
 ghost use Rattle.scylla_file.specs.Components.{said_components, absent, component_at, file_at, said_scylla, scylla_of};

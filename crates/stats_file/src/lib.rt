@@ -1,4 +1,5 @@
 // Statistics.db.
+#![tactic(auto)]
 mod bases; // bases.rt: the base times
 pub mod columns; // columns.rt: the columns of the header, and their schema records
 mod header; // header.rt: entry 3

@@ -1,4 +1,5 @@
 // Entry 0 of Statistics.
+#![tactic(auto)]
 ghost use Rattle.std.specs.Prelude.{◌≡◌};
 ghost use Rattle.stats_validation.specs.Validation.{chance_of, chance_at, validation_at, said_chance, said_validated};
 

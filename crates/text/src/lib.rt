@@ -1,4 +1,6 @@
 // Texts in bytes.
+#![tactic(auto)]
+
 ghost use Rattle.std.specs.Prelude.{◌≡◌};
 ghost use Rattle.text.specs.Text.{same, among, starts_with};
 

@@ -1,4 +1,6 @@
 // What a type string begins with, its name, and what follows that in parentheses.
+#![tactic(auto)]
+
 mod characters; // characters.rt: the characters of type strings
 
 ghost use Rattle.std.specs.Prelude.{◌≡◌, ◌≤◌, length};

@@ -1,1 +1,2 @@
 // The types that are carried, and their type strings: laws alone, no function.
+#![tactic(auto)]

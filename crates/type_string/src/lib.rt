@@ -1,4 +1,5 @@
 // The types of columns: the table of 001, and type strings.
+#![tactic(auto)]
 mod string; // string.rt: type strings
 
 ghost use Rattle.std.specs.Prelude.{◌≡◌};

@@ -1,8 +1,10 @@
 // The table of types (001), one line each, from 1.
+#![tactic(auto)]
+
 ghost use Rattle.std.specs.Prelude.{◌≡◌, ◌-◌, ◌<◌, ◌≤◌, length};
 ghost use Rattle.common.specs.Store.{part};
 ghost use Rattle.text.specs.Text.{same};
-ghost use Rattle.type_table.specs.Table.{table, line_in, line_of};
+ghost use Rattle.type_table.specs.Table.{table, line_in, line_of, is_line};
 ghost use Rattle.type_table.specs.Rows.{names, first};
 
 // The names of all lines, one after the other.
@@ -59,6 +61,16 @@ fn end_of(line: u8) -> usize
     ENDS[line as usize] as usize
 }
 
+// Whether the table has that line.
+pub fn is_line(line: u8) -> bool
+    ensures { result ≡ is_line line }
+{
+    if line == 0 {
+        return false;
+    }
+    line <= 34
+}
+
 // Whether a line's type takes parameters.
 // Internal: for the crates above.
 pub fn takes_parameters(line: u8) -> bool
@@ -103,20 +115,6 @@ pub fn is_ordered(line: u8) -> bool
     match line {
         1 | 2 | 3 | 17 | 21 | 28 | 33 => true, // Ascii, Boolean, Bytes, Int32, Long, Timestamp, UTF8
         _ => false, // no order
-    }
-}
-
-// Whether a line's values are ordered by their signed number.
-// Internal: for the crates above.
-pub fn is_signed(line: u8) -> bool
-    ensures { result ≡ (line_of line).signed }
-{
-    if 34 < line {
-        return false;
-    }
-    match line {
-        17 | 21 | 28 => true, // Int32, Long, Timestamp
-        _ => false, // unsigned bytes, or no order
     }
 }
 

@@ -1,4 +1,4 @@
-use Rattle.common.specs.declared.refusal.Slice.TheVariants.{Statistics, Scylla, Data, Schema, Records, Bytes, Output, Bases, State, StatisticsB, DataB, SchemaB, BasesB}
+use Rattle.common.specs.declared.refusal.Slice.TheVariants.{Statistics, Scylla, Data, Schema, Records, Bytes, Output, Bases, State}
 use Rattle.print_line.proofs.Puts.{room_named, puts_named}
 use borrow.Author.Rules.{rules}
 use Rattle.print_line.proofs.refusals.put_slice.Statement.{statement}
@@ -85,42 +85,6 @@ slice-aggregate-put-text-9 c = search rules
 put-text-requires-9 : tie.Need-put-text-requires-9
 put-text-requires-9 c κs = search (room_named State, rules)
 
-enum-told-10 : tie.Need-enum-told-10
-enum-told-10 c = search rules
-
-slice-aggregate-put-text-10 : tie.Need-slice-aggregate-put-text-10
-slice-aggregate-put-text-10 c = search rules
-
-put-text-requires-10 : tie.Need-put-text-requires-10
-put-text-requires-10 c κs = search (room_named StatisticsB, rules)
-
-enum-told-11 : tie.Need-enum-told-11
-enum-told-11 c = search rules
-
-slice-aggregate-put-text-11 : tie.Need-slice-aggregate-put-text-11
-slice-aggregate-put-text-11 c = search rules
-
-put-text-requires-11 : tie.Need-put-text-requires-11
-put-text-requires-11 c κs = search (room_named DataB, rules)
-
-enum-told-12 : tie.Need-enum-told-12
-enum-told-12 c = search rules
-
-slice-aggregate-put-text-12 : tie.Need-slice-aggregate-put-text-12
-slice-aggregate-put-text-12 c = search rules
-
-put-text-requires-12 : tie.Need-put-text-requires-12
-put-text-requires-12 c κs = search (room_named SchemaB, rules)
-
-enum-told-13 : tie.Need-enum-told-13
-enum-told-13 c = search rules
-
-slice-aggregate-put-text-13 : tie.Need-slice-aggregate-put-text-13
-slice-aggregate-put-text-13 c = search rules
-
-put-text-requires-13 : tie.Need-put-text-requires-13
-put-text-requires-13 c κs = search (room_named BasesB, rules)
-
 same_length : tie.Need-same-length
 same_length c = search rules
 
@@ -175,30 +139,6 @@ same-length-9 c = search rules
 returns-9 : tie.Need-returns-9
 returns-9 c = search (puts_named State, rules)
 
-same-length-10 : tie.Need-same-length-10
-same-length-10 c = search rules
-
-returns-10 : tie.Need-returns-10
-returns-10 c = search (puts_named StatisticsB, rules)
-
-same-length-11 : tie.Need-same-length-11
-same-length-11 c = search rules
-
-returns-11 : tie.Need-returns-11
-returns-11 c = search (puts_named DataB, rules)
-
-same-length-12 : tie.Need-same-length-12
-same-length-12 c = search rules
-
-returns-12 : tie.Need-returns-12
-returns-12 c = search (puts_named SchemaB, rules)
-
-same-length-13 : tie.Need-same-length-13
-same-length-13 c = search rules
-
-returns-13 : tie.Need-returns-13
-returns-13 c = search (puts_named BasesB, rules)
-
 pub put-slice-spec : {M : Type 1} → statement M
 put-slice-spec =
     tie.close
@@ -230,18 +170,6 @@ put-slice-spec =
     enum-told-9
     slice-aggregate-put-text-9
     put-text-requires-9
-    enum-told-10
-    slice-aggregate-put-text-10
-    put-text-requires-10
-    enum-told-11
-    slice-aggregate-put-text-11
-    put-text-requires-11
-    enum-told-12
-    slice-aggregate-put-text-12
-    put-text-requires-12
-    enum-told-13
-    slice-aggregate-put-text-13
-    put-text-requires-13
     same_length
     returns
     same-length-2
@@ -259,12 +187,4 @@ put-slice-spec =
     same-length-8
     returns-8
     same-length-9
-    returns-9
-    same-length-10
-    returns-10
-    same-length-11
-    returns-11
-    same-length-12
-    returns-12
-    same-length-13
-    returns-13)
+    returns-9)
