@@ -1,5 +1,6 @@
 // What a call over Data tests first.
 #![tactic(auto)]
+
 ghost use Rattle.std.specs.Prelude.{◌≡◌, length};
 ghost use Rattle.schema_check.specs.Records.{said_checked};
 ghost use Rattle.common.specs.Refusals.{refused};

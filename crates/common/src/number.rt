@@ -2,7 +2,7 @@
 use crate::refusal::Fault;
 
 // The answer of every call that reads one number.
-#[derive(Drop)]
+#[derive(Clone, Copy)]
 pub enum Num {
     // The number, and the place after it.
     Number { value: u64, next: usize },
@@ -10,14 +10,14 @@ pub enum Num {
 }
 
 // A number, and the place after it, where it is known that it stands.
-#[derive(Drop)]
+#[derive(Clone, Copy)]
 pub struct Known {
     pub value: u64,
     pub next: usize,
 }
 
 // The answer of every call that stores bytes at a place, where they fit.
-#[derive(Drop)]
+#[derive(Clone, Copy)]
 pub enum Stored {
     // Stored: the place after them.
     At(usize),

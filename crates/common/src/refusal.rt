@@ -3,7 +3,7 @@ ghost use Rattle.std.specs.Prelude.{◌≡◌};
 ghost use Rattle.common.specs.Refusals.{fault_number, slice_number};
 
 // The faults of document 01, "Numbers given back", in the order of their numbers.
-#[derive(Drop)]
+#[derive(Clone, Copy)]
 pub enum Fault {
     OverLimit, // 1: a slice over the limit
     PastEnd, // 2: a field or region passes the end of its region
@@ -21,7 +21,7 @@ pub enum Fault {
 }
 
 // The slices that calls are lent. A merge has two of some, and says beside the refusal which.
-#[derive(Drop)]
+#[derive(Clone, Copy)]
 pub enum Slice {
     Statistics,
     Scylla,
@@ -35,7 +35,7 @@ pub enum Slice {
 }
 
 // A refusal. The place is the first byte of the field or record concerned, but for NoRoom the length needed.
-#[derive(Drop)]
+#[derive(Clone, Copy)]
 pub struct Refusal {
     pub fault: Fault,
     pub slice: Slice,

@@ -3,7 +3,7 @@ ghost use Rattle.std.specs.Prelude.{◌≡◌};
 ghost use Rattle.common.specs.Times.{biased};
 
 // What deltas in Data add to: the timestamp plus 2^63 (so that the numbers' order is the signed one's), the local deletion time, the TTL.
-#[derive(Drop)]
+#[derive(Clone, Copy)]
 pub struct Bases {
     pub timestamp: u64,
     pub local: u64,

@@ -11,7 +11,7 @@ use data_field::fields::{Part, Span};
 
 // What a row's liveness gives its cells: 1 where it has a timestamp, else 0, and it plus 2^63; 1 where it expires, else 0, its
 // local deletion time and TTL.
-#[derive(Drop)]
+#[derive(Clone, Copy)]
 pub struct Times {
     pub timed: u8,
     pub timestamp: u64,
@@ -21,7 +21,7 @@ pub struct Times {
 }
 
 // A cell: kind 0 a value, 1 an expiring one (local deletion time and TTL), 2 a tombstone (local deletion time, no value).
-#[derive(Drop)]
+#[derive(Clone, Copy)]
 pub struct Cell {
     pub kind: u8,
     pub timestamp: u64,
@@ -30,7 +30,7 @@ pub struct Cell {
     pub value: Span,
 }
 
-#[derive(Drop)]
+#[derive(Clone, Copy)]
 enum Lasting {
     // The kind, local deletion time and TTL of a cell that is no tombstone, and the place after them.
     Till {
@@ -45,7 +45,7 @@ enum Lasting {
     },
 }
 
-#[derive(Drop)]
+#[derive(Clone, Copy)]
 pub enum Found {
     // The cell, and the place after it.
     Read { cell: Cell, next: usize },

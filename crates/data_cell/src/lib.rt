@@ -1,3 +1,4 @@
 // Cells of Data.
 #![tactic(auto)]
+
 pub mod cells; // cells.rt: one cell

@@ -10,14 +10,14 @@ use data_cell::cells::{Cell, Times};
 use data_field::fields::Span;
 
 // A cell, and the place after it.
-#[derive(Drop)]
+#[derive(Clone, Copy)]
 pub struct KnownCell {
     pub cell: Cell,
     pub next: usize,
 }
 
 // The kind, local deletion time and TTL of a cell that is no tombstone, and the place after them.
-#[derive(Drop)]
+#[derive(Clone, Copy)]
 struct KnownExpiry {
     kind: u8,
     local: u64,

@@ -7,7 +7,7 @@ use common::number::Known;
 use data_field::fields::Span;
 
 // A value, and the place after it.
-#[derive(Drop)]
+#[derive(Clone, Copy)]
 pub struct KnownValue {
     pub value: Span,
     pub next: usize,

@@ -10,20 +10,20 @@ use data_field::fields;
 use data_field::fields::{Part, Span};
 
 // The header, and the place of the first value.
-#[derive(Drop)]
+#[derive(Clone, Copy)]
 pub struct Prefix {
     pub header: u64,
     pub values: usize,
 }
 
-#[derive(Drop)]
+#[derive(Clone, Copy)]
 enum Skipped {
     // The place after the values.
     To(usize),
     Refused { fault: Fault, place: usize },
 }
 
-#[derive(Drop)]
+#[derive(Clone, Copy)]
 pub enum Prefixed {
     // Header and first value, and the place after the values.
     Read { prefix: Prefix, next: usize },

@@ -8,7 +8,7 @@ use common::refusal::Fault;
 use common::times::Bases;
 
 // A deletion: 1 where there is one, else 0; its mark plus 2^63, its local time.
-#[derive(Drop)]
+#[derive(Clone, Copy)]
 pub struct Deletion {
     pub deleted: u8,
     pub mark: u64,
@@ -16,20 +16,20 @@ pub struct Deletion {
 }
 
 // A part of the slice read: 0, 0 for an empty value.
-#[derive(Drop)]
+#[derive(Clone, Copy)]
 pub struct Span {
     pub start: usize,
     pub len: usize,
 }
 
-#[derive(Drop)]
+#[derive(Clone, Copy)]
 pub enum Part {
     // Where the value lies, and the place after it.
     Lies { value: Span, next: usize },
     Refused { fault: Fault, place: usize },
 }
 
-#[derive(Drop)]
+#[derive(Clone, Copy)]
 pub enum Deleted {
     // The deletion, and the place after it.
     By { deletion: Deletion, next: usize },

@@ -1,5 +1,6 @@
 // What a step hands out: the numbers of a record.
 #![tactic(auto)]
+
 ghost use Rattle.std.specs.Prelude.{◌≡◌, ◌-◌};
 ghost use Rattle.data_items.specs.Items.{mark_of, time_of, partition_flags, cell_flags, partition_item, row_item, marker_item, value_item, cell_item, end_item, shows_value, value_of};
 
@@ -12,7 +13,7 @@ use data_row::bodies::Body;
 use data_row::rows::Row;
 
 // A record's numbers. Timestamp and marks are the signed number plus 2^63, so that 2^63 stands where there is none.
-#[derive(Drop)]
+#[derive(Clone, Copy)]
 pub struct Item {
     pub kind: u64,
     pub flags: u64,

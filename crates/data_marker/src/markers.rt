@@ -15,14 +15,14 @@ use data_field::fields;
 use data_field::fields::{Deleted, Deletion};
 
 // The deletions of a marker: of a boundary the end's and the start's; the second of the others is none.
-#[derive(Drop)]
+#[derive(Clone, Copy)]
 pub struct Deletions {
     pub first: Deletion,
     pub second: Deletion,
 }
 
 // A marker: where its flags stand, its kind, how many clustering columns its prefix has, the prefix, the deletions.
-#[derive(Drop)]
+#[derive(Clone, Copy)]
 pub struct Marker {
     pub start: usize,
     pub kind: u64,
@@ -31,14 +31,14 @@ pub struct Marker {
     pub deletions: Deletions,
 }
 
-#[derive(Drop)]
+#[derive(Clone, Copy)]
 enum Bounded {
     // The deletions, and the end of the body, which they fill.
     By { deletions: Deletions, next: usize },
     Refused { fault: Fault, place: usize },
 }
 
-#[derive(Drop)]
+#[derive(Clone, Copy)]
 pub enum Found {
     // The marker, and the place after it.
     Read { marker: Marker, next: usize },

@@ -9,13 +9,13 @@ use common::times;
 use data_field::fields::{Deleted, Deletion, Span};
 
 // Where the key lies, and the deletion.
-#[derive(Drop)]
+#[derive(Clone, Copy)]
 pub struct Partition {
     pub key: Span,
     pub deletion: Deletion,
 }
 
-#[derive(Drop)]
+#[derive(Clone, Copy)]
 pub enum Found {
     // The partition, and the place behind its header.
     Read { partition: Partition, next: usize },

@@ -13,7 +13,7 @@ use data_field::fields;
 use data_field::fields::{Deleted, Deletion};
 
 // Where the body ends, the row's times and deletion, and a bit for each column that has a cell, the lowest the first column's.
-#[derive(Drop)]
+#[derive(Clone, Copy)]
 pub struct Body {
     pub stop: usize,
     pub times: Times,
@@ -21,14 +21,14 @@ pub struct Body {
     pub present: u64,
 }
 
-#[derive(Drop)]
+#[derive(Clone, Copy)]
 enum Timed {
     // The row's times, and the place after them.
     Live { times: Times, next: usize },
     Refused { fault: Fault, place: usize },
 }
 
-#[derive(Drop)]
+#[derive(Clone, Copy)]
 pub enum Bodied {
     // The body, and the place of its first cell.
     Read { body: Body, next: usize },

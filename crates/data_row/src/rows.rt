@@ -12,7 +12,7 @@ use data_clustering::prefixes;
 use data_clustering::prefixes::{Prefix, Prefixed};
 
 // A row: where its flags stand, the flags, the extended byte (1 for a static row, else 0), the clustering, the body.
-#[derive(Drop)]
+#[derive(Clone, Copy)]
 pub struct Row {
     pub start: usize,
     pub flags: u64,
@@ -21,7 +21,7 @@ pub struct Row {
     pub body: Body,
 }
 
-#[derive(Drop)]
+#[derive(Clone, Copy)]
 pub enum Found {
     // The row, and the place of its first cell.
     Read { row: Row, next: usize },

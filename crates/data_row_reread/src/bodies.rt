@@ -14,21 +14,21 @@ use data_row::bodies;
 use data_row::bodies::Body;
 
 // The row's times, and the place after them.
-#[derive(Drop)]
+#[derive(Clone, Copy)]
 pub struct KnownTimes {
     pub times: Times,
     pub next: usize,
 }
 
 // A deletion, and the place after it.
-#[derive(Drop)]
+#[derive(Clone, Copy)]
 pub struct KnownDeletion {
     pub deletion: Deletion,
     pub next: usize,
 }
 
 // The body, and the place of its first cell.
-#[derive(Drop)]
+#[derive(Clone, Copy)]
 pub struct KnownBody {
     pub body: Body,
     pub next: usize,

@@ -10,7 +10,7 @@ use data_clustering::prefixes::Prefix;
 use data_field::fields::Span;
 
 // Header and first value, and the place after the values.
-#[derive(Drop)]
+#[derive(Clone, Copy)]
 pub struct KnownPrefix {
     pub prefix: Prefix,
     pub next: usize,

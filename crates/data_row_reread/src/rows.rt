@@ -13,7 +13,7 @@ use data_row::rows;
 use data_row::rows::Row;
 
 // A row, and the place of its first cell.
-#[derive(Drop)]
+#[derive(Clone, Copy)]
 pub struct KnownRow {
     pub row: Row,
     pub next: usize,

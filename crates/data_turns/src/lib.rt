@@ -1,5 +1,6 @@
 // What may stand where in Data, for its reader and its writer: kinds of markers and their turns, static rows.
 #![tactic(auto)]
+
 ghost use Rattle.std.specs.Prelude.{◌≡◌};
 ghost use Rattle.data_turns.specs.Turns.{bad_kind, is_start, is_boundary, out_of_turn, same_deletion, may_stand};
 

@@ -14,7 +14,7 @@ use data_row::rows::Row;
 use schema_check::records::Counts;
 
 // What is due at the cursor's position.
-#[derive(Drop)]
+#[derive(Clone, Copy)]
 pub enum Phase {
     Partition, // a partition, or the end of Data
     First, // the first item of a partition: the one place for a static row
@@ -27,7 +27,7 @@ pub enum Phase {
 
 // The row or marker in hand: the next value's or cell's column, how many clustering values it has, their header, the place of the first cell,
 // the body's end, the columns that have a cell, the row's times.
-#[derive(Drop)]
+#[derive(Clone, Copy)]
 pub struct Hand {
     pub column: u64,
     pub count: u64,
@@ -39,7 +39,7 @@ pub struct Hand {
 }
 
 // The walk's state, which goes in and comes back by value; `opened` is the deletion of the open range.
-#[derive(Drop)]
+#[derive(Clone, Copy)]
 pub struct Cursor {
     pub position: usize,
     pub phase: Phase,

@@ -23,13 +23,13 @@ use data_row::rows;
 use data_row::rows::Row;
 use schema_check::records::{Checked, Counts};
 
-#[derive(Drop)]
+#[derive(Clone, Copy)]
 enum Moved {
     Next { item: Item, cursor: Cursor },
     Refused { fault: Fault, place: usize },
 }
 
-#[derive(Drop)]
+#[derive(Clone, Copy)]
 pub enum Step {
     // The item, and the cursor behind it.
     Next { item: Item, cursor: Cursor },

@@ -7,7 +7,7 @@ use common::part;
 use libc::STDOUT_FILENO;
 
 // What came of reading a file.
-#[derive(Drop)]
+#[derive(Clone, Copy)]
 pub(crate) enum Loaded {
     // How many bytes it has: all are in the buffer.
     Bytes(usize),

@@ -1,6 +1,7 @@
 // Lists a table: reads Statistics.db and Data.db, together up to 65,536 bytes, and prints a line for each record, or the one line of a
 // refusal. Its arguments name the folders to list, one after the other; without one it lists the current folder.
 #![tactic(auto)]
+
 mod files; // files.rt: reading the files
 mod report; // report.rt: what is printed of them
 

@@ -16,7 +16,7 @@ use stats_file::Answer;
 use stats_file::columns::Sizes;
 
 // Whether the files are listed.
-#[derive(Drop)]
+#[derive(Clone, Copy)]
 enum Begun {
     // They are: the base times, and how many bytes of schema records there are.
     Listing { bases: Bases, len: usize },

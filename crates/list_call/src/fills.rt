@@ -27,14 +27,14 @@ use data_row_reread::{prefixes, rows};
 use schema_check::records::Counts;
 
 // Where an entry ends, or entries and their end byte, and the place behind its records.
-#[derive(Drop)]
+#[derive(Clone, Copy)]
 pub struct Behind {
     pub next: usize,
     pub out: usize,
 }
 
 // Where a marker ends, the deletion of the range that is open behind it, and the place behind its records.
-#[derive(Drop)]
+#[derive(Clone, Copy)]
 pub struct Open {
     pub opened: Deletion,
     pub next: usize,

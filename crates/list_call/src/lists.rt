@@ -15,7 +15,7 @@ use common::times::Bases;
 use list_count::counts;
 use schema_check::records::{Checked, Counts};
 
-#[derive(Drop)]
+#[derive(Clone, Copy)]
 pub enum Listed {
     // How many records there are.
     Records(usize),

@@ -20,7 +20,7 @@ use data_partition::partitions;
 use data_row::rows;
 use schema_check::records::Counts;
 
-#[derive(Drop)]
+#[derive(Clone, Copy)]
 enum Passed {
     // The deletion of the range that is open behind an entry, how many items stand before, and the next place.
     To {

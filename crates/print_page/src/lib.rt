@@ -1,5 +1,6 @@
 // The text of a walk through Data, a page at a time.
 #![tactic(auto)]
+
 ghost use Rattle.std.specs.Prelude.{◌≤◌, length};
 ghost use Rattle.call_check.specs.Tables.{Table};
 ghost use Rattle.print_page.specs.Pages.{page_in, page_at, len_of, Fills};
@@ -12,7 +13,7 @@ use print_line::{line, refusals};
 use schema_check::records::{Checked, Counts};
 
 // How many bytes of a page are filled, and whether there is more.
-#[derive(Drop)]
+#[derive(Clone, Copy)]
 pub enum Filled {
     // More may come: the walk goes on from the cursor.
     More { len: usize, cursor: Cursor },

@@ -7,7 +7,7 @@ ghost use Rattle.schema_check.specs.Runs.{all_widths, is_of, lesser_of, run_of};
 use common::refusal::{Fault, Refusal, Slice};
 
 // How many columns of each role there are.
-#[derive(Drop)]
+#[derive(Clone, Copy)]
 pub struct Counts {
     pub keys: u64,
     pub clustering: u64,
@@ -15,13 +15,13 @@ pub struct Counts {
     pub regulars: u64,
 }
 
-#[derive(Drop)]
+#[derive(Clone, Copy)]
 enum Found {
     Records { counts: Counts, next: usize },
     Bad { fault: Fault, place: usize },
 }
 
-#[derive(Drop)]
+#[derive(Clone, Copy)]
 pub enum Checked {
     Counted(Counts),
     Refused(Refusal),

@@ -1,12 +1,13 @@
 // One column of a schema, when two schemas are equal, and which clustering types have an order.
 #![tactic(auto)]
+
 ghost use Rattle.std.specs.Prelude.{◌≡◌, ◌+◌, ◌≤◌, length};
 ghost use Rattle.schema_column.specs.Columns.{column_at, column_of, name_of, same_column, same_schemas, unordered_of};
 
 use common::part;
 
 // A column as its record gives it.
-#[derive(Drop)]
+#[derive(Clone, Copy)]
 pub struct Column {
     pub role: u8,
     pub line: u8,
@@ -16,13 +17,13 @@ pub struct Column {
     pub len: u64,
 }
 
-#[derive(Drop)]
+#[derive(Clone, Copy)]
 pub enum Found {
     Is(Column),
     Absent,
 }
 
-#[derive(Drop)]
+#[derive(Clone, Copy)]
 pub enum Unordered {
     // The place of the first clustering record whose type has no order.
     At(usize),

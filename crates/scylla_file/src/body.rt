@@ -9,14 +9,14 @@ use common::refusal::Fault;
 use scylla_sharding::region;
 use scylla_sharding::region::Passed;
 
-#[derive(Drop)]
+#[derive(Clone, Copy)]
 pub struct Uuid {
     pub high: u64,
     pub low: u64,
 }
 
 // The answer of a call that reads a run identifier.
-#[derive(Drop)]
+#[derive(Clone, Copy)]
 pub enum RunAnswer {
     Read { uuid: Uuid, next: usize },
     Refused { fault: Fault, place: usize },

@@ -11,14 +11,14 @@ use scylla_sharding::region;
 use scylla_sharding::region::Passed;
 
 // Where a component's body stands, behind tag and size.
-#[derive(Drop)]
+#[derive(Clone, Copy)]
 pub struct Place {
     pub offset: usize,
     pub length: usize,
 }
 
 // What the components say; zeros where one is absent.
-#[derive(Drop)]
+#[derive(Clone, Copy)]
 pub struct Components {
     // The feature bits.
     pub bits: u64,
@@ -32,7 +32,7 @@ pub struct Components {
 }
 
 // The answer of a call that reads components.
-#[derive(Drop)]
+#[derive(Clone, Copy)]
 pub enum ComponentsAnswer {
     Read { components: Components, next: usize },
     Refused { fault: Fault, place: usize },

@@ -1,5 +1,6 @@
 // Scylla.db, read in full: feature bits, run identifier and where each known component stands.
 #![tactic(auto)]
+
 ghost use Rattle.std.specs.Prelude.{◌≡◌, length};
 ghost use Rattle.scylla_sharding.specs.Regions.{times};
 ghost use Rattle.scylla_file.specs.Components.{said_components, absent, component_at, file_at, said_scylla, scylla_of};
@@ -12,7 +13,7 @@ use common::refusal::{Fault, Refusal, Slice};
 use component::{Components, ComponentsAnswer};
 
 // The answer of `read`.
-#[derive(Drop)]
+#[derive(Clone, Copy)]
 pub enum Answer {
     Taken(Components),
     Refused(Refusal),

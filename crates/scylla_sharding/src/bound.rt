@@ -9,7 +9,7 @@ use common::refusal::Fault;
 use common::times;
 
 // A bound of a token range.
-#[derive(Drop)]
+#[derive(Clone, Copy)]
 pub struct Bound {
     // 0 inclusive, 1 exclusive.
     pub exclusive: u64,
@@ -18,7 +18,7 @@ pub struct Bound {
 }
 
 // The answer of a call that reads a bound.
-#[derive(Drop)]
+#[derive(Clone, Copy)]
 pub enum BoundAnswer {
     Read { bound: Bound, next: usize },
     Refused { fault: Fault, place: usize },

@@ -1,5 +1,6 @@
 // Sharding metadata, tag 1 of Scylla.db: the token ranges of a table, in order.
 #![tactic(auto)]
+
 ghost use Rattle.std.specs.Prelude.{◌≡◌};
 ghost use Rattle.scylla_sharding.specs.Regions.{times, passed, said_passed};
 ghost use Rattle.scylla_sharding.specs.Bounds.{said_bound};

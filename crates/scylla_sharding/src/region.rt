@@ -7,7 +7,7 @@ use common::number::Num;
 use common::refusal::Fault;
 
 // The answer of a call that keeps no value.
-#[derive(Drop)]
+#[derive(Clone, Copy)]
 pub enum Passed {
     // The place after what was read.
     To(usize),

@@ -7,7 +7,7 @@ use common::number::Num;
 use common::refusal::Fault;
 
 // The offset of each entry, 0 where it is absent.
-#[derive(Drop)]
+#[derive(Clone, Copy)]
 pub struct Contents {
     pub validation: usize,
     pub compaction: usize,
@@ -15,7 +15,7 @@ pub struct Contents {
     pub header: usize,
 }
 
-#[derive(Drop)]
+#[derive(Clone, Copy)]
 pub enum Listed {
     // The contents, and the place after them.
     Pairs { contents: Contents, next: usize },

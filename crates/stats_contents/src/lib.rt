@@ -1,3 +1,4 @@
 // Statistics' contents.
 #![tactic(auto)]
+
 pub mod contents; // contents.rt: which entries there are, and where

@@ -9,7 +9,7 @@ use common::refusal::Fault;
 use common::times;
 use common::times::Bases;
 
-#[derive(Drop)]
+#[derive(Clone, Copy)]
 pub enum Times {
     // The bases, and the place after them.
     Based { bases: Bases, next: usize },

@@ -17,13 +17,13 @@ use schema_column::Column;
 use type_string::{Kind, Typed};
 
 // Where a name stands.
-#[derive(Drop)]
+#[derive(Clone, Copy)]
 pub struct Name {
     pub start: usize,
     pub len: usize,
 }
 
-#[derive(Drop)]
+#[derive(Clone, Copy)]
 pub enum Named {
     // The name's place, and the place after it.
     Is { name: Name, next: usize },
@@ -31,21 +31,21 @@ pub enum Named {
 }
 
 // How many clustering, static and regular columns there are.
-#[derive(Drop)]
+#[derive(Clone, Copy)]
 pub struct Sizes {
     pub clustering: u64,
     pub statics: u64,
     pub regulars: u64,
 }
 
-#[derive(Drop)]
+#[derive(Clone, Copy)]
 pub enum Grouped {
     // The sizes, and the place after the columns.
     Counts { sizes: Sizes, next: usize },
     Refused { fault: Fault, place: usize },
 }
 
-#[derive(Drop)]
+#[derive(Clone, Copy)]
 pub enum Found {
     // A column, and the place after it.
     Is { column: Column, next: usize },

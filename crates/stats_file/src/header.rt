@@ -11,13 +11,13 @@ use common::refusal::Fault;
 use common::times::Bases;
 
 // The bases, and how many columns there are.
-#[derive(Drop)]
+#[derive(Clone, Copy)]
 pub struct Head {
     pub bases: Bases,
     pub sizes: Sizes,
 }
 
-#[derive(Drop)]
+#[derive(Clone, Copy)]
 pub enum Headed {
     // The header, and the place after it.
     Header { head: Head, next: usize },

@@ -1,5 +1,6 @@
 // Statistics.db.
 #![tactic(auto)]
+
 mod bases; // bases.rt: the base times
 pub mod columns; // columns.rt: the columns of the header, and their schema records
 mod header; // header.rt: entry 3
@@ -19,20 +20,20 @@ use stats_contents::contents::{Contents, Listed};
 use stats_validation::{Validated, Validation};
 
 // What Statistics says of a table: its base times, its validation entry, and how many columns of each role it has.
-#[derive(Drop)]
+#[derive(Clone, Copy)]
 pub struct Table {
     pub bases: Bases,
     pub validation: Validation,
     pub sizes: Sizes,
 }
 
-#[derive(Drop)]
+#[derive(Clone, Copy)]
 pub enum Answer {
     Read(Table),
     Refused(Refusal),
 }
 
-#[derive(Drop)]
+#[derive(Clone, Copy)]
 enum Entered {
     Whole(Table),
     Bad { fault: Fault, place: usize },

@@ -1,5 +1,6 @@
 // Entry 0 of Statistics.
 #![tactic(auto)]
+
 ghost use Rattle.std.specs.Prelude.{◌≡◌};
 ghost use Rattle.stats_validation.specs.Validation.{chance_of, chance_at, validation_at, said_chance, said_validated};
 
@@ -7,28 +8,28 @@ use common::number::Num;
 use common::refusal::Fault;
 
 // The bloom filter's false-positive chance: the double, and its bits as they stand.
-#[derive(Drop)]
+#[derive(Clone, Copy)]
 pub struct Chance {
     pub value: f64,
     pub bits: u64,
 }
 
 // Where the partitioner's name stands, and the chance.
-#[derive(Drop)]
+#[derive(Clone, Copy)]
 pub struct Validation {
     pub name: usize,
     pub len: usize,
     pub chance: Chance,
 }
 
-#[derive(Drop)]
+#[derive(Clone, Copy)]
 pub enum Chances {
     // The chance, and the place after it.
     Taken { chance: Chance, next: usize },
     Refused { fault: Fault, place: usize },
 }
 
-#[derive(Drop)]
+#[derive(Clone, Copy)]
 pub enum Validated {
     // The entry, and the place after it.
     Entry { validation: Validation, next: usize },

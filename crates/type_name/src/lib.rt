@@ -59,7 +59,7 @@ fn named(name: &[u8]) -> u8
 }
 
 // The name that a type string begins with: its line or 0, BytesType's where there is none, and the place behind it and the blanks.
-#[derive(Drop)]
+#[derive(Clone, Copy)]
 pub struct Name {
     pub line: u8,
     pub next: usize,
@@ -83,7 +83,7 @@ pub fn name_at(s: &[u8], at: usize) -> Name
 }
 
 // What a part in parentheses is followed by.
-#[derive(Drop)]
+#[derive(Clone, Copy)]
 pub enum Skip {
     // The place behind it.
     Behind(usize),

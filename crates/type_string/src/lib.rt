@@ -1,5 +1,6 @@
 // The types of columns: the table of 001, and type strings.
 #![tactic(auto)]
+
 mod string; // string.rt: type strings
 
 ghost use Rattle.std.specs.Prelude.{◌≡◌};
@@ -10,13 +11,13 @@ use common::number::Num;
 use common::refusal::Fault;
 
 // A column's type: its line in 001's table from 1 (under Reversed, its parameter's), and 1 where it is reversed.
-#[derive(Drop)]
+#[derive(Clone, Copy)]
 pub struct Kind {
     pub line: u8,
     pub reversed: u8,
 }
 
-#[derive(Drop)]
+#[derive(Clone, Copy)]
 pub enum Typed {
     // The type, and the place after its string.
     Known { kind: Kind, next: usize },

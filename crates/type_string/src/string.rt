@@ -14,7 +14,7 @@ use type_name::Skip;
 const REVERSED: u8 = 24;
 
 // What a type string says.
-#[derive(Drop)]
+#[derive(Clone, Copy)]
 pub enum Parsed {
     Known(Kind),
     Refused(Fault),

@@ -15,7 +15,7 @@ use schema_check::records::{Checked, Counts};
 use write_measure::whole as measures;
 use write_store::whole;
 
-#[derive(Drop)]
+#[derive(Clone, Copy)]
 pub enum Written {
     // How long the Data is.
     Length(usize),

@@ -21,7 +21,7 @@ use write_record_parts::convert;
 use write_row_parts::{heads, markers as bounds};
 use write_sizes::{prefixes, sizes};
 
-#[derive(Drop)]
+#[derive(Clone, Copy)]
 pub enum Passed {
     // The deletion of the range that is open behind an entry, what the next one's previous size counts, how long the entry is, and the
     // next place.

@@ -12,7 +12,7 @@ use write_record::ranges::Record;
 use write_record::records;
 use write_record_parts::convert;
 
-#[derive(Drop)]
+#[derive(Clone, Copy)]
 pub enum Clustered {
     // How many values there are, their header's bits, how long they are without it, and the place after them.
     To {
@@ -27,7 +27,7 @@ pub enum Clustered {
     },
 }
 
-#[derive(Drop)]
+#[derive(Clone, Copy)]
 pub enum Celled {
     // A bit for each missing column, how long the cells are, and the place after them.
     To {

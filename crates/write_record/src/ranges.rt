@@ -8,7 +8,7 @@ use common::refusal::Fault;
 use common::times::Bases;
 use data_items::Item;
 
-#[derive(Drop)]
+#[derive(Clone, Copy)]
 pub enum Record {
     // The record's numbers, and the place after it.
     Found { item: Item, next: usize },

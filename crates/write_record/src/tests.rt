@@ -8,7 +8,7 @@ use data_field::fields::Deletion;
 use data_items::Item;
 
 // What a record may be where it stands, but for rows, clustering values and cells.
-#[derive(Drop)]
+#[derive(Clone, Copy)]
 pub enum Turn {
     Partition,
     // `first` is 1 right behind the partition's record, else 0.

@@ -19,21 +19,21 @@ use write_record_parts::{convert, fields};
 use write_store_parts::rows;
 
 // The places behind what is read and behind what is stored.
-#[derive(Drop)]
+#[derive(Clone, Copy)]
 pub struct Behind {
     pub next: usize,
     pub out: usize,
 }
 
 // What a row's record says.
-#[derive(Drop)]
+#[derive(Clone, Copy)]
 pub struct Head {
     pub times: Times,
     pub deletion: Deletion,
 }
 
 // What a marker's record says.
-#[derive(Drop)]
+#[derive(Clone, Copy)]
 pub struct Bound {
     pub kind: u64,
     pub deletions: Deletions,

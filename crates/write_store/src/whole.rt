@@ -19,7 +19,7 @@ use write_record_parts::{convert, fields};
 use write_sizes::partitions;
 
 // The places behind an entry that is read and behind what is stored, and how far the next one's previous size counts back.
-#[derive(Drop)]
+#[derive(Clone, Copy)]
 pub struct Passed {
     pub next: usize,
     pub out: usize,
