@@ -1,0 +1,13 @@
+use Rattle.common.proofs.Choose.{cases}
+use Rattle.common.proofs.Said.{reading}
+use Rattle.data_row.proofs.Said.{answers}
+use Rattle.data_row.specs.Bodies.{body_at}
+use Rattle.data_row.proofs.bodies.read_body.Goals as goal
+
+pub returns-in-Number : goal.returns-in-Number
+unfolding body_at
+returns-in-Number c = search (reading, answers, cases) depth 12
+
+pub returns-in-Refused : goal.returns-in-Refused
+unfolding body_at
+returns-in-Refused c = search (reading, answers, cases) depth 12

@@ -1,0 +1,11 @@
+use Rattle.common.proofs.Choose.{cases}
+use Rattle.data_row.specs.Rows.{clustering_in}
+use Rattle.data_row.proofs.rows.clustering_of.Goals as goal
+
+pub returns-then-x-eq1 : goal.returns-then-x-eq1
+unfolding clustering_in
+returns-then-x-eq1 c = search (cases) depth 12
+
+pub returns : goal.returns
+unfolding clustering_in
+returns c = search (cases) depth 12
