@@ -3,7 +3,6 @@ use Rattle.std.proofs.Common.{◌≡◌, ℕ, ◌+◌, ◌-◌, ◌^◌, ◌<◌
 use borrow.Author.Tests.{lt-leb}
 use Rattle.common.specs.Choose.{pick}
 use Rattle.common.specs.Store.{splice, part, Room, Puts, stored, storing, Stores, shown}
-use Rattle.common.specs.declared.number.Stored.{Stored}
 use Rattle.common.specs.declared.number.Stored.TheVariants.{At, Full}
 use Rattle.common.proofs.Choose.{pick_yes, pick_no}
 use Rattle.common.proofs.Splices.{filled, filled_none, filled_more, filled_all, splice_splice, length_splice}

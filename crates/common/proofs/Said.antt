@@ -1,6 +1,6 @@
 -- What the code's answers say, in the direction of a contract `said r ≡ definition`: with these, `search (reading, cases) depth 12`
 -- answers each return of a function that reads. Assumes nothing.
-use Rattle.std.proofs.Common.{◌≡◌, ℕ, sym, refl, ap, ◌∙◌}
+use Rattle.std.proofs.Common.{◌≡◌, ℕ, sym, refl, ◌∙◌}
 use Rattle.common.specs.Got.{Got, got, bad, on, said_num}
 use Rattle.common.specs.declared.refusal.Fault.{Fault}
 use Rattle.common.specs.declared.number.Num.{Num}

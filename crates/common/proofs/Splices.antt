@@ -1,7 +1,7 @@
 -- A list that is stored into a slice: from a place on, one part after the other, element by element. Assumes nothing.
 use Rattle.std.proofs.Common.{◌≡◌, ℕ, suc, ◌+◌, ◌<◌, ◌≤◌, List, [], ◌∷◌, ◌++◌, length, get_or, take, drop, set, sym, refl, ap, ◌∙◌, append_assoc, append-nil, add_assoc, add-one, arith, length-append, length-drop, take-append-drop, length-take, length-take-le, get_or-take, drop-drop, take-suc-set, take_at, get_or-append-add, drop-set-lt, take-add, drop_at}
 use lib.ListN.{get_or-append}
-use lib.Seq.{paste, paste-zero, paste-suc, length-paste, take-length, append_snoc, drop-append-add}
+use lib.Seq.{paste, paste-zero, paste-suc, take-length, append_snoc, drop-append-add}
 use Rattle.common.specs.Store.{splice}
 
 -- d with the first n of vs stored from place at on

@@ -1,5 +1,5 @@
 -- Bytes that stand somewhere before an end. Assumes nothing.
-use Rattle.std.proofs.Common.{◌≡◌, ℕ, ◌+◌, ◌<◌, ◌≤◌, List, [], ◌∷◌, ◌++◌, length, get_or, take, drop, sym, refl, ap, ◌∙◌, add-zero, add_assoc, arith, length-append, length-drop, length-take, get_or-drop, get_or-take, get_or-append-add, ext_get_or}
+use Rattle.std.proofs.Common.{◌≡◌, ℕ, ◌+◌, ◌<◌, ◌≤◌, List, [], ◌∷◌, ◌++◌, length, get_or, take, drop, refl, ◌∙◌, add-zero, add_assoc, arith, length-append, length-drop, length-take, get_or-drop, get_or-take, get_or-append-add, ext_get_or}
 use lib.ListN.{get_or-append}
 use Rattle.common.specs.Store.{Room, Puts, part}
 use Rattle.common.proofs.Splices.{get_d_splice}

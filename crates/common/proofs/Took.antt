@@ -1,5 +1,5 @@
 -- Readings that are not refused, for code that reads again what was read before: each part of one is not refused either. Assumes nothing.
-use Rattle.std.proofs.Common.{◌≡◌, ℕ, Bool, true, false, sym, refl}
+use Rattle.std.proofs.Common.{◌≡◌, ℕ, Bool, true, false, refl}
 use Rattle.common.specs.Choose.{pick}
 use Rattle.common.specs.Got.{Got, got, bad, on, Took}
 use Rattle.common.specs.declared.refusal.Fault.{Fault}

@@ -1,6 +1,6 @@
 -- The laws of big-endian numbers, once over the width. Assumes nothing.
 use mathlib.Core.Path.{◌≡◌, refl, sym, ap, ◌∙◌}
-use mathlib.Core.List.{List, [], ◌∷◌, ◌++◌}
+use mathlib.Core.List.{List}
 use Prim.Native.Nat.{ℕ, zero, suc, ◌+◌, ◌-◌, ◌*◌, ◌/◌, ◌%◌, ◌^◌, ◌≤◌, ◌<◌}
 use native.Mathlib.Nat.{pow-suc, mul_assoc, mul-suc, pow-le-pow_right, mul-le-mul_left, lt_of_lt_of_le, le_trans, le_of_suc-le-suc, not-suc-le-zero, sub-zero, suc-sub-suc, div-div-eq-div-mul, div-add-mod', sub_self, div-one, div-eq_of_lt}
 use lib.Pow.{pow-add}
@@ -8,7 +8,7 @@ use lib.Dec.{ltb, leb, lit<, leb→le}
 use borrow.Author.Tests.{ltb-false}
 use native.Mathlib.Omega.{arith}
 use lib.ListN.{length, get_or}
-use Rattle.common.specs.Got.{Got, got, bad, said_num}
+use Rattle.common.specs.Got.{got, said_num}
 use Rattle.common.specs.declared.number.Num.{Num}
 use Rattle.common.specs.declared.number.Num.TheVariants.{Number}
 use Rattle.number_fixed.specs.BigEndian.{big_endian, bytes_of, fixed_at}

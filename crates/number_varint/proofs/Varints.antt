@@ -1,24 +1,24 @@
 -- The laws of varints: what is read of one in every case, that what stands is read back in every form, and that no form is shorter than
 -- the shortest. Assumes nothing.
 use mathlib.Core.Path.{◌≡◌, refl, sym, ap, ◌∙◌}
-use mathlib.Core.Bool.{Bool, true, false}
+use mathlib.Core.Bool.{Bool, true}
 use mathlib.Core.List.{List}
 use Prim.Native.Nat.{ℕ, suc, ◌+◌, ◌-◌, ◌*◌, ◌/◌, ◌%◌, ◌^◌, ◌≤◌, ◌<◌}
 use native.Mathlib.Nat.{sub_self, div-one, lt_of_lt_of_le, add-zero, mul-le-mul_right}
 use native.Mathlib.Omega.{arith}
 use borrow.Author.Tests.{lt-ltb, ltb-false, leb-false}
-use lib.Dec.{ltb, leb, eqb, T, eqb→eq, leb→le}
+use lib.Dec.{ltb, leb, eqb, T, eqb→eq}
 use lib.ListN.{length, get_or, set, length-set}
 use lib.Pow.{pow_mono}
 use Rattle.common.specs.Choose.{pick, bind}
-use Rattle.common.specs.Got.{Got, got, bad, said_num, Took}
+use Rattle.common.specs.Got.{got, bad, said_num, Took}
 use Rattle.common.specs.declared.number.Num.{Num}
 use Rattle.common.specs.declared.number.Num.TheVariants.{Number}
 use Rattle.number_fixed.specs.BigEndian.{big_endian, bytes_of}
 use Rattle.number_varint.specs.Varints.{leading, low, varint_at, form, extra, shortest}
 use Rattle.common.specs.Store.{Room, Puts}
 use Rattle.common.specs.declared.refusal.Fault.TheVariants.{PastEnd}
-use Rattle.common.proofs.Choose.{cases, pick_no, bind_self}
+use Rattle.common.proofs.Choose.{cases}
 use Rattle.common.proofs.Finite.{below_at, all_below, implies}
 use Rattle.number_fixed.proofs.BigEndian.{be_lt, be_bytes, get_d_bytes_of, length_bytes_of}
 use Rattle.number_varint.proofs.Cuts.{cut_out}

@@ -1,6 +1,6 @@
 -- "A varint's first byte has n leading one bits, 0 to 8, and n bytes follow; the bits after the marker, then the bytes, highest first,
 -- are the value. Longer forms are read; the writer uses the shortest." Assumes nothing.
-use Rattle.std.specs.Prelude.{ℕ, zero, suc, ◌+◌, ◌-◌, ◌/◌, ◌%◌, ◌^◌, List, [], ◌∷◌, length, get_or, ltb, leb}
+use Rattle.std.specs.Prelude.{ℕ, zero, suc, ◌+◌, ◌-◌, ◌/◌, ◌%◌, ◌^◌, List, ◌∷◌, length, get_or, ltb, leb}
 use Rattle.common.specs.Choose.{pick, bind}
 use Rattle.common.specs.Got.{Reader, got, bad}
 use Rattle.number_fixed.specs.BigEndian.{big_endian, bytes_of}

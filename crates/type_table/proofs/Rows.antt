@@ -1,6 +1,6 @@
 -- The code's table is 001's: the ends of its names are computed from the lines of the definition, which the check compares with the
 -- code's constants; what the code says of a line by its number is computed at every number. Assumes nothing.
-use mathlib.Core.Path.{◌≡◌, refl, sym, ap, subst, ◌∙◌}
+use mathlib.Core.Path.{◌≡◌, refl, sym, subst, ◌∙◌}
 use mathlib.Core.Logic.{inl, inr}
 use mathlib.Core.Bool.{Bool, true, false, not, ◌||◌}
 use mathlib.Core.List.{List, [], ◌∷◌}

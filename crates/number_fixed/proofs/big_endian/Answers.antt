@@ -1,8 +1,7 @@
-use Prim.Native.Nat.{◌-◌, ◌+◌, ◌<◌, ◌*◌, ◌^◌}
+use Prim.Native.Nat.{◌+◌}
 use mathlib.Core.Path.{refl, ◌∙◌, ap}
 use native.Mathlib.Omega.{arith}
 use native.Mathlib.Numerals.{add-one}
-use lib.ListN.{get_or}
 use Rattle.number_fixed.specs.BigEndian.{big_endian}
 use Rattle.number_fixed.proofs.BigEndian.{be_fits}
 use Rattle.number_fixed.proofs.big_endian.Goals as goal

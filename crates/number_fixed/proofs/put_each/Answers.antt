@@ -1,4 +1,3 @@
-use Prim.Native.Nat.{◌-◌}
 use Rattle.common.proofs.Puts.{stores}
 use Rattle.number_fixed.proofs.BigEndian.{length_bytes_of, byte_is}
 use borrow.Author.Rules.{rules}

@@ -1,4 +1,3 @@
-use Prim.Native.Nat.{◌-◌}
 use Rattle.text.proofs.Texts.{seeking}
 use borrow.Author.Rules.{rules}
 use Rattle.text.proofs.among.Goals as goal

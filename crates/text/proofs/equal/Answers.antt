@@ -1,4 +1,3 @@
-use Prim.Native.Nat.{◌-◌}
 use Rattle.text.proofs.Texts.{comparing}
 use borrow.Author.Rules.{rules}
 use Rattle.text.proofs.equal.Goals as goal

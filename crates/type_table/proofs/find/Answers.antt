@@ -1,4 +1,3 @@
-use Prim.Native.Nat.{◌-◌}
 use Rattle.type_table.proofs.Rows.{finding}
 use borrow.Author.Rules.{rules}
 use Rattle.type_table.proofs.find.Goals as goal

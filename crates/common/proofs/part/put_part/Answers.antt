@@ -1,4 +1,4 @@
-use Rattle.std.proofs.Common.{◌-◌, rules}
+use Rattle.std.proofs.Common.{rules}
 use Rattle.common.proofs.Puts.{stores, length_part, part_at}
 use Rattle.common.proofs.part.put_part.Goals as goal
 
