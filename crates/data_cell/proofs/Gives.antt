@@ -1,16 +1,16 @@
 -- What is read of a cell: it goes on, not past its end, its times are in range and its value lies in the slice. Assumes nothing.
-use mathlib.Core.Path.{◌≡◌, refl, sym, ◌∙◌}
+use mathlib.Core.Path.{◌≡◌, refl}
 use mathlib.Core.Bool.{Bool, true, false}
 use mathlib.Core.List.{List}
-use Prim.Native.Nat.{ℕ, ◌+◌, ◌-◌, ◌/◌, ◌%◌, ◌≤◌, ◌<◌}
+use Prim.Native.Nat.{ℕ, ◌/◌, ◌%◌, ◌≤◌}
 use native.Mathlib.Omega.{arith}
 use borrow.Author.Tests.{ltb-false, eqb-true}
-use lib.Dec.{ltb, eqb}
+use lib.Dec.{eqb}
 use lib.ListN.{length}
 use Rattle.common.specs.Choose.{pick}
 use Rattle.common.specs.Got.{Got}
 use Rattle.common.proofs.Gives.{Gives, gives_got, gives_bad, gives_on, gives_pick}
-use Rattle.data_field.specs.Fields.{span, byte_at}
+use Rattle.data_field.specs.Fields.{span}
 use Rattle.data_cell.specs.Cells.{cell, bad_flags, flags_at, last_at, expiring_at, content_at, timed_at, cell_at}
 use Rattle.common.specs.declared.times.Bases.{Bases}
 use Rattle.data_field.specs.declared.fields.Span.{Span}

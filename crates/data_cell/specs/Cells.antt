@@ -1,10 +1,10 @@
 -- "Cell flags and fields as in 002": flags 01 tombstone, 02 expiring, 04 empty value, 08 the row's timestamp, 10 the row's TTL and expiry;
 -- then timestamp, local deletion time, TTL and value, each where the flags leave it. Assumes nothing.
-use Rattle.std.specs.Prelude.{ℕ, ◌/◌, ◌%◌, Bool, true, List, ltb, eqb}
+use Rattle.std.specs.Prelude.{ℕ, ◌/◌, ◌%◌, Bool, true, ltb, eqb}
 use Rattle.common.specs.Choose.{pick}
 use Rattle.common.specs.Got.{Got, got, bad, on, Reader, ◌>>=◌, ret, when}
 use Rattle.common.specs.declared.refusal.Fault.TheVariants.{BadFlags}
-use Rattle.data_field.specs.Fields.{span, byte_at, in_at, timestamp_at, local_at, ttl_at, value_at}
+use Rattle.data_field.specs.Fields.{span, byte_at, timestamp_at, local_at, ttl_at, value_at}
 use Rattle.common.specs.declared.times.Bases.{Bases}
 use Rattle.data_field.specs.declared.fields.Span.{Span}
 use Rattle.data_cell.specs.declared.cells.Times.{Times}

@@ -1,5 +1,5 @@
 -- A cell that is known to stand, and so its parts. Assumes nothing.
-use mathlib.Core.Path.{◌≡◌, refl, sym}
+use mathlib.Core.Path.{◌≡◌, refl}
 use mathlib.Core.Bool.{true, false}
 use mathlib.Core.List.{List}
 use Prim.Native.Nat.{ℕ, ◌/◌, ◌%◌}
@@ -7,10 +7,10 @@ use borrow.Author.Tests.{eq-eqb, ne_eqb}
 use lib.Dec.{eqb}
 use Rattle.common.specs.Got.{Got, got, on, Took}
 use Rattle.common.specs.declared.times.Bases.{Bases}
-use Rattle.common.proofs.Choose.{pick_yes, pick_no}
+use Rattle.common.proofs.Choose.{pick_no}
 use Rattle.common.proofs.Took.{took_first, took_then, took_yes, took_no, took_past, past, on_again}
 use Rattle.data_field.specs.Fields.{byte_at, timestamp_at, local_at, ttl_at, value_at}
-use Rattle.data_cell.specs.Cells.{flags_at, time_at, own_at, lasting_at, last_at, content_at, timed_at, cell_at}
+use Rattle.data_cell.specs.Cells.{flags_at, time_at, own_at, lasting_at, last_at, content_at, cell_at}
 use Rattle.data_cell.specs.declared.cells.Times.{Times}
 use Rattle.data_cell.proofs.Parts.{timed_is, content_is}
 

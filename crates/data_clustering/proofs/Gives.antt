@@ -1,19 +1,17 @@
 -- What is read of clustering and sizes goes on, not past its end, and the values lie in the slice. Assumes nothing.
 use mathlib.Core.Path.{◌≡◌, refl}
-use mathlib.Core.Bool.{Bool, true, false}
+use mathlib.Core.Bool.{false}
 use mathlib.Core.List.{List, [], ◌∷◌}
 use Prim.Native.Nat.{ℕ, ◌+◌, ◌-◌, ◌/◌, ◌%◌, ◌≤◌, ◌<◌}
 use native.Mathlib.Omega.{arith}
 use borrow.Author.Tests.{ltb-false, eqb-true}
 use lib.Dec.{ltb, eqb}
 use lib.ListN.{length}
-use Rattle.common.specs.Choose.{pick}
 use Rattle.common.specs.Got.{Got, got, bad}
-use Rattle.number_varint.specs.Varints.{varint_at}
 use Rattle.common.proofs.Gives.{Gives, gives_got, gives_bad, gives_on, gives_pick}
 use Rattle.common.proofs.RoundTrip.{Reads}
 use Rattle.data_field.specs.declared.fields.Span.{Span}
-use Rattle.data_field.proofs.Ranges.{Goes, Moves, goes_none, goes_goes, moves_on, ValueIn, value_none, value_gives, varint_moves}
+use Rattle.data_field.proofs.Ranges.{Goes, goes_none, goes_goes, moves_on, ValueIn, value_none, value_gives, varint_moves}
 use Rattle.data_clustering.specs.Prefixes.{bad_header, header_at, clustering_at, values_at, skipped, prefix_at}
 use Rattle.data_clustering.specs.Sizes.{sizes_at}
 use Rattle.data_clustering.specs.declared.prefixes.Prefix.{Prefix}

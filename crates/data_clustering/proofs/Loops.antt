@@ -1,7 +1,7 @@
 -- The bits of a header one column after the other, and the values that they leave. Assumes nothing.
 use mathlib.Core.Path.{◌≡◌, refl, sym, ap, ◌∙◌}
-use mathlib.Core.Bool.{Bool, true, false}
-use mathlib.Core.List.{List, [], ◌∷◌}
+use mathlib.Core.Bool.{true, false}
+use mathlib.Core.List.{List, ◌∷◌}
 use Prim.Native.Nat.{ℕ, zero, suc, ◌+◌, ◌-◌, ◌*◌, ◌/◌, ◌%◌, ◌^◌, ◌≤◌, ◌<◌}
 use native.Mathlib.Omega.{arith}
 use borrow.Author.Tests.{eq-eqb, ne_eqb}
@@ -20,7 +20,6 @@ use Rattle.data_field.specs.declared.fields.Part.{Part}
 use Rattle.data_field.specs.declared.fields.Part.TheVariants.{Lies, Refused as part-refused}
 use Rattle.data_field.proofs.Said.{on_part, on_part_bad}
 use Rattle.data_clustering.specs.Prefixes.{bad_header, header_at, clustering_at, values_at, widths_at, skipped, said_skipped}
-use Rattle.data_clustering.specs.declared.prefixes.Skipped.{Skipped}
 use Rattle.data_clustering.specs.declared.prefixes.Skipped.TheVariants.{To, Refused as skip-refused}
 
 -- h is what is left of a header for the columns that are left

@@ -3,7 +3,7 @@ use mathlib.Core.Path.{◌≡◌, refl}
 use mathlib.Core.List.{List, [], ◌∷◌}
 use Prim.Native.Nat.{ℕ}
 use Rattle.common.specs.Choose.{pick, bind}
-use Rattle.common.specs.Got.{Got, got, bad, on}
+use Rattle.common.specs.Got.{got, bad, on}
 use Rattle.number_fixed.specs.BigEndian.{big_endian}
 use Rattle.number_varint.specs.Varints.{leading, low, varint_at}
 use Rattle.common.specs.declared.refusal.Fault.TheVariants.{PastEnd, BadFlags}

@@ -4,14 +4,13 @@ use mathlib.Core.Bool.{true, false}
 use mathlib.Core.List.{List}
 use Prim.Native.Nat.{ℕ, ◌+◌, ◌-◌, ◌≤◌, ◌<◌}
 use native.Mathlib.Omega.{arith}
-use borrow.Author.Tests.{ltb-false, leb-false, eqb-true, eqb-false}
+use borrow.Author.Tests.{ltb-false, leb-false, eqb-false}
 use lib.Dec.{ltb, leb, eqb}
 use lib.ListN.{length, get_or}
-use Rattle.common.specs.Got.{Got}
 use Rattle.number_fixed.specs.BigEndian.{fixed_at}
 use Rattle.number_varint.specs.Varints.{varint_at, leading}
 use Rattle.common.proofs.Gives.{Gives, gives_got, gives_bad, gives_on, gives_pick, gives_bind}
-use Rattle.data_field.specs.Fields.{span, deletion, live, byte_at, in_at, deletion_at, variable_at, value_at}
+use Rattle.data_field.specs.Fields.{span, live, byte_at, in_at, deletion_at, variable_at, value_at}
 use Rattle.common.specs.declared.times.Bases.{Bases}
 use Rattle.data_field.specs.declared.fields.Deletion.{Deletion}
 use Rattle.data_field.specs.declared.fields.Span.{Span}

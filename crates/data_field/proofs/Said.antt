@@ -1,5 +1,5 @@
 -- What the code's answers say, for `search`. Assumes nothing.
-use mathlib.Core.Path.{◌≡◌, refl, sym, ap, ◌∙◌}
+use mathlib.Core.Path.{◌≡◌, refl, sym, ◌∙◌}
 use Prim.Native.Nat.{ℕ}
 use Rattle.common.specs.Got.{Got, got, bad, on}
 use Rattle.common.specs.declared.refusal.Fault.{Fault}

@@ -1,6 +1,6 @@
 -- The fields that stand in rows, markers and cells: a byte, a time as a delta, a deletion, a value. Timestamps and marks are the signed
 -- number plus 2^63, so that -2^63 is 0, the order is the numbers' and sums are exact. Assumes nothing.
-use Rattle.std.specs.Prelude.{ℕ, ◌+◌, ◌-◌, List, ltb, leb, eqb, length, get_or}
+use Rattle.std.specs.Prelude.{ℕ, ◌+◌, ◌-◌, ltb, leb, eqb, length, get_or}
 use Rattle.common.specs.Choose.{pick}
 use Rattle.common.specs.Got.{Got, got, bad, on, Reader, ◌>>=◌, ret}
 use Rattle.number_varint.specs.Varints.{varint_at}

@@ -1,16 +1,16 @@
 -- The columns of a prefix are the first of the table's. Assumes nothing.
 use mathlib.Core.Path.{◌≡◌, refl, sym, ap, ◌∙◌}
-use mathlib.Core.List.{List, [], ◌∷◌}
+use mathlib.Core.List.{List, ◌∷◌}
 use Prim.Native.Nat.{ℕ, zero, suc, ◌+◌, ◌*◌, ◌≤◌}
 use native.Mathlib.Nat.{le_of_suc-le-suc, not-suc-le-zero}
 use native.Mathlib.Omega.{arith}
 use borrow.Author.Tests.{ltb-false}
 use lib.Dec.{ltb}
 use lib.ListN.{length, get_or, take}
-use Rattle.common.specs.Got.{Got, said_num}
+use Rattle.common.specs.Got.{said_num}
 use Rattle.common.specs.declared.number.Num.{Num}
 use Rattle.common.specs.declared.number.Num.TheVariants.{Number}
-use Rattle.common.proofs.Gives.{Gives, gives_got, gives_bad, gives_on, gives_pick, gives_is}
+use Rattle.common.proofs.Gives.{gives_got, gives_bad, gives_on, gives_pick, gives_is}
 use Rattle.common.proofs.Said.{num_got}
 use Rattle.data_clustering.specs.Prefixes.{prefix_at, widths_at, said_prefixed}
 use Rattle.data_clustering.specs.declared.prefixes.Prefixed.{Prefixed}

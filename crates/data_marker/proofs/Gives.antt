@@ -2,18 +2,17 @@
 use mathlib.Core.Path.{◌≡◌, refl}
 use mathlib.Core.Bool.{Bool, true, false}
 use mathlib.Core.List.{List}
-use Prim.Native.Nat.{ℕ, ◌+◌, ◌≤◌, ◌<◌}
+use Prim.Native.Nat.{ℕ, ◌≤◌}
 use native.Mathlib.Omega.{arith}
 use borrow.Author.Tests.{ltb-false}
 use lib.Dec.{ltb, eqb}
 use lib.ListN.{length, take}
-use Rattle.common.specs.Got.{Got, got}
 use Rattle.common.proofs.Gives.{Gives, gives_got, gives_bad, gives_on, gives_pick}
 use Rattle.data_field.specs.Fields.{live}
 use Rattle.common.specs.declared.times.Bases.{Bases}
 use Rattle.data_field.specs.declared.fields.Deletion.{Deletion}
-use Rattle.data_field.proofs.Ranges.{Goes, Moves, goes_none, goes_goes, moves_on, moves_goes, moves_moves, DeletionIn, deletion_none, byte_gives, fixed_moves, deletion_gives}
-use Rattle.data_clustering.proofs.Gives.{PrefixOk, Sized, prefix_gives, sizes_give}
+use Rattle.data_field.proofs.Ranges.{Goes, Moves, goes_none, moves_on, moves_goes, moves_moves, DeletionIn, deletion_none, byte_gives, fixed_moves, deletion_gives}
+use Rattle.data_clustering.proofs.Gives.{PrefixOk, prefix_gives, sizes_give}
 use Rattle.data_marker.specs.Kinds.{marker_flags_at, kind_at, count_at}
 use Rattle.data_turns.specs.Turns.{bad_kind, is_start, is_boundary, out_of_turn}
 use Rattle.data_marker.specs.Markers.{first_at, second_at, deletions_at, body_at, bound_at, marker_at}

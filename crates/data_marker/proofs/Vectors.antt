@@ -3,9 +3,8 @@
 use mathlib.Core.Path.{◌≡◌, refl}
 use mathlib.Core.List.{List, [], ◌∷◌}
 use Prim.Native.Nat.{ℕ}
-use lib.ListN.{length, take}
 use Rattle.common.specs.Choose.{pick, bind}
-use Rattle.common.specs.Got.{Got, got, bad, on}
+use Rattle.common.specs.Got.{got, bad, on}
 use Rattle.number_fixed.specs.BigEndian.{big_endian, fixed_at}
 use Rattle.number_varint.specs.Varints.{leading, low, varint_at}
 use Rattle.common.specs.declared.refusal.Fault.TheVariants.{PastEnd, LeftOver, BadFlags, OutOfRange, OutOfTurn}

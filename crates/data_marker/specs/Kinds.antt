@@ -1,12 +1,11 @@
 -- "Marker: kind (0 exclusive end, 1 inclusive start, 2 exclusive end with inclusive start, 5 inclusive end with exclusive start, 6 inclusive
 -- end, 7 exclusive start), 16-bit count, prefix, sizes, one deletion, or end then start for 2 and 5." Assumes nothing.
-use Rattle.std.specs.Prelude.{ℕ, Bool, true, false, ltb, eqb}
+use Rattle.std.specs.Prelude.{ℕ, ltb, eqb}
 use Rattle.common.specs.Choose.{pick}
-use Rattle.common.specs.Got.{Got, got, bad, on, Reader}
+use Rattle.common.specs.Got.{got, bad, on, Reader}
 use Rattle.number_fixed.specs.BigEndian.{fixed_at}
 use Rattle.common.specs.declared.refusal.Fault.TheVariants.{BadFlags, OutOfRange, OutOfTurn}
 use Rattle.data_field.specs.Fields.{byte_at}
-use Rattle.data_field.specs.declared.fields.Deletion.{Deletion}
 use Rattle.data_turns.specs.Turns.{bad_kind, out_of_turn}
 
 -- the flags of a marker, 02 alone: 4 at them

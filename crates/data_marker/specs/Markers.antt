@@ -1,8 +1,8 @@
 -- A marker, whole. Assumes nothing.
-use Rattle.std.specs.Prelude.{ℕ, Bool, true, false, List, ltb, eqb, length, take}
+use Rattle.std.specs.Prelude.{ℕ, List, length, take}
 use Rattle.common.specs.Choose.{pick}
 use Rattle.common.specs.Got.{Got, got, bad, on, Reader, ◌>>=◌, ret, when, filled}
-use Rattle.common.specs.declared.refusal.Fault.TheVariants.{LeftOver, OutOfTurn}
+use Rattle.common.specs.declared.refusal.Fault.TheVariants.{OutOfTurn}
 use Rattle.data_field.specs.Fields.{deletion_at, live}
 use Rattle.common.specs.declared.times.Bases.{Bases}
 use Rattle.data_field.specs.declared.fields.Deletion.{Deletion}

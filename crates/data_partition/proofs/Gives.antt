@@ -1,14 +1,11 @@
 -- What is read of a partition's header goes on, not past its end, and is in range. Assumes nothing.
 use mathlib.Core.Path.{◌≡◌, refl}
-use mathlib.Core.Bool.{Bool, true, false}
 use mathlib.Core.List.{List}
 use Prim.Native.Nat.{ℕ, ◌+◌, ◌-◌, ◌^◌, ◌≤◌, ◌<◌}
 use native.Mathlib.Omega.{arith}
-use borrow.Author.Tests.{ltb-false, ltb-true, eqb-true, eqb-false}
+use borrow.Author.Tests.{ltb-false, eqb-false}
 use lib.Dec.{ltb, eqb}
 use lib.ListN.{length, get_or}
-use Rattle.common.specs.Choose.{pick}
-use Rattle.common.specs.Got.{Got, got}
 use Rattle.number_fixed.specs.BigEndian.{fixed_at}
 use Rattle.common.proofs.Choose.{pick_ind}
 use Rattle.common.proofs.Gives.{Gives, gives_got, gives_bad, gives_on, gives_pick, gives_bind}

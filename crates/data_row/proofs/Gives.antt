@@ -1,25 +1,21 @@
 -- What is read of a row goes on, not past its end, and is in range. Assumes nothing.
 use mathlib.Core.Path.{◌≡◌, refl}
-use mathlib.Core.Bool.{Bool, true, false}
+use mathlib.Core.Bool.{false}
 use mathlib.Core.List.{List, []}
 use mathlib.Core.Logic.{◌⊎◌, inl, inr}
-use Prim.Native.Nat.{ℕ, ◌+◌, ◌-◌, ◌/◌, ◌%◌, ◌≤◌, ◌<◌}
+use Prim.Native.Nat.{ℕ, ◌/◌, ◌%◌, ◌≤◌}
 use native.Mathlib.Omega.{arith}
-use borrow.Author.Tests.{ltb-true, ltb-false, eqb-true}
 use lib.Dec.{ltb, eqb}
 use lib.ListN.{length}
-use Rattle.common.specs.Got.{Got, got}
+use Rattle.common.specs.Got.{Got}
 use Rattle.common.proofs.Gives.{Gives, gives_got, gives_bad, gives_on, gives_pick, gives_bind}
 use Rattle.common.specs.declared.times.Bases.{Bases}
-use Rattle.data_field.specs.declared.fields.Deletion.{Deletion}
-use Rattle.data_cell.specs.declared.cells.Times.{Times}
 use Rattle.data_field.proofs.Ranges.{Goes, Moves, goes_none, goes_goes, moves_on, moves_goes, TimestampIn, DeletionIn, deletion_none, byte_gives, varint_moves, in_gives, deletion_gives}
 use Rattle.data_cell.proofs.Gives.{TimesIn}
-use Rattle.data_clustering.specs.Prefixes.{prefix_at}
 use Rattle.data_clustering.proofs.Gives.{PrefixOk, Sized, prefix_gives, sizes_give}
 use Rattle.data_row.specs.Flags.{bad_row_flags, row_flags_at, extended_of, extended_at}
 use Rattle.data_turns.specs.Turns.{may_stand}
-use Rattle.data_row.specs.Bodies.{times, body, expiry_at, liveness_at, row_deletion_at, columns, present_at, content_at, body_at}
+use Rattle.data_row.specs.Bodies.{times, expiry_at, liveness_at, row_deletion_at, columns, present_at, content_at, body_at}
 use Rattle.data_row.specs.Rows.{rest_at, row_at}
 use Rattle.data_row.specs.declared.bodies.Body.{Body}
 use Rattle.data_row.specs.declared.rows.Row.{Row}

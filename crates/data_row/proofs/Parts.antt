@@ -5,7 +5,6 @@ use mathlib.Core.List.{List, []}
 use Prim.Native.Nat.{ℕ, ◌+◌, ◌*◌, ◌≤◌}
 use native.Mathlib.Omega.{arith}
 use lib.Dec.{eqb}
-use lib.ListN.{length}
 use Rattle.common.specs.Choose.{pick}
 use Rattle.common.specs.Got.{Got}
 use Rattle.common.specs.declared.times.Bases.{Bases}

@@ -3,10 +3,10 @@ use mathlib.Core.Path.{◌≡◌, refl}
 use mathlib.Core.List.{List, [], ◌∷◌}
 use Prim.Native.Nat.{ℕ}
 use Rattle.common.specs.Choose.{pick, bind}
-use Rattle.common.specs.Got.{Got, got, bad, on}
+use Rattle.common.specs.Got.{got, bad, on}
 use Rattle.number_fixed.specs.BigEndian.{big_endian}
 use Rattle.number_varint.specs.Varints.{leading, low, varint_at}
-use Rattle.common.specs.declared.refusal.Fault.TheVariants.{PastEnd, BadFlags, OutOfRange, OutOfTurn, NotCarried}
+use Rattle.common.specs.declared.refusal.Fault.TheVariants.{PastEnd, BadFlags, OutOfTurn, NotCarried}
 use Rattle.data_field.specs.Fields.{byte_at, in_at, deletion_at, variable_at, value_at, deletion, live}
 use Rattle.common.specs.declared.times.Bases.{Bases}
 use Rattle.data_clustering.specs.Prefixes.{bad_header, header_at, clustering_at, values_at, skipped, prefix_at}

@@ -6,7 +6,7 @@ use Rattle.common.specs.Choose.{pick, bind}
 use Rattle.common.specs.Got.{Got, got, bad, on, Reader, ◌>>=◌, ret, when}
 use Rattle.number_varint.specs.Varints.{varint_at}
 use Rattle.common.specs.declared.refusal.Fault.TheVariants.{BadFlags}
-use Rattle.data_field.specs.Fields.{in_at, timestamp_at, local_at, ttl_at, deletion_at, live}
+use Rattle.data_field.specs.Fields.{timestamp_at, local_at, ttl_at, deletion_at, live}
 use Rattle.common.specs.declared.times.Bases.{Bases}
 use Rattle.data_field.specs.declared.fields.Deletion.{Deletion}
 use Rattle.data_cell.specs.declared.cells.Times.{Times}

@@ -1,5 +1,5 @@
 -- The flags of a row and its extended byte. Assumes nothing.
-use Rattle.std.specs.Prelude.{ℕ, ◌/◌, ◌%◌, Bool, true, false, ltb, eqb}
+use Rattle.std.specs.Prelude.{ℕ, ◌/◌, ◌%◌, Bool, true, ltb, eqb}
 use Rattle.common.specs.Choose.{pick}
 use Rattle.common.specs.Got.{Got, got, bad, on, Reader}
 use Rattle.common.specs.declared.refusal.Fault.TheVariants.{BadFlags, OutOfTurn, NotCarried}

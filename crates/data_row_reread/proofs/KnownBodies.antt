@@ -7,7 +7,7 @@ use native.Mathlib.Omega.{arith}
 use borrow.Author.Tests.{eq-eqb, ne_eqb, ltb-false}
 use lib.Dec.{eqb, ltb}
 use Rattle.common.specs.Choose.{bind}
-use Rattle.common.specs.Got.{Got, got, Took}
+use Rattle.common.specs.Got.{got, Took}
 use Rattle.common.specs.declared.times.Bases.{Bases}
 use Rattle.common.proofs.Choose.{pick_no}
 use Rattle.common.proofs.Gives.{gives_is}
