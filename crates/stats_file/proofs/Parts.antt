@@ -189,7 +189,7 @@ module _ (s : List ℕ) (at end : ℕ) (d d₁ : List ℕ) (r₁ : Num) (h₁ : 
               let third = group_read _ (1 + k + m) d₂ d₃ r₃ q n h₃ e in
               taken_groups _ d d₃ (sizes_of k m q) n (h₃.same ∙ h₂.same ∙ h₁.same)
               (reads_on _ first (λ g i. reads_on _ (rw i.1.columns at second) (λ y j. reads_on _ (rw j.1.columns at third) (λ z o.
-              reads_got _ n (rw (i.0, j.0, o.0) refl, rw (i.0, j.0, o.0) o.1)))))
+              reads_got _ n (rw (i.0, j.0, o.0) refl, o.1)))))
 
 pub ruleset groupings = (groups_bad₁, groups_bad₂, groups_bad₃, groups_all)
 
