@@ -8,17 +8,17 @@ use borrow.Author.Tests.{ltb-true, ltb-false, eqb-false}
 use lib.Dec.{ltb, eqb}
 use lib.ListN.{length}
 use Rattle.common.specs.Choose.{pick, bind}
-use Rattle.common.specs.Got.{Got, got, bad, on, within}
-use Rattle.common.specs.Refusals.{Outcome, taken, refused}
+use Rattle.common.specs.Got.{Got, got, bad, within}
+use Rattle.common.specs.Refusals.{taken, refused}
 use Rattle.common.specs.declared.refusal.Fault.TheVariants.{OverLimit, OutOfRange}
 use Rattle.common.specs.declared.refusal.Slice.TheVariants.{Schema, Data, Output, Bases as bases-slice}
 use Rattle.common.specs.declared.times.Bases.{Bases}
 use Rattle.common.proofs.Gives.{Gives, gives_got, gives_bad, gives_on, gives_pick}
-use Rattle.schema_check.specs.Records.{role_at, none, given, is_first, is_passed, count_of, most_of, in_turn, with_one, record_at, records_at, schema_at, schema_of, anywhere, said_checked}
+use Rattle.schema_check.specs.Records.{role_at, none, given, is_first, count_of, most_of, in_turn, with_one, record_at, records_at, schema_at, schema_of, anywhere, said_checked}
 use Rattle.schema_check.specs.declared.records.Counts.{Counts}
 use Rattle.call_check.specs.Tables.{Table, bad_bases, table_at}
 use Rattle.schema_check.specs.declared.records.Checked.{Checked}
-use Rattle.schema_check.specs.declared.records.Checked.TheVariants.{Counted, Refused}
+use Rattle.schema_check.specs.declared.records.Checked.TheVariants.{Counted}
 
 -- the records before at, in len bytes, are counted in c
 record Fills (len at : ℕ) (c : Counts) : Type 0 where

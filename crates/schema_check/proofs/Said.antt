@@ -1,7 +1,7 @@
 -- What the code's answers say, for `search`. Assumes nothing.
-use mathlib.Core.Path.{◌≡◌, refl, sym, ap, ◌∙◌}
+use mathlib.Core.Path.{◌≡◌}
 use Prim.Native.Nat.{ℕ}
-use Rattle.common.specs.Got.{Got, got, bad, on, within}
+use Rattle.common.specs.Got.{Got, got, bad, within}
 use Rattle.common.specs.Refusals.{Outcome, taken, refused}
 use Rattle.common.specs.declared.refusal.Fault.{Fault}
 use Rattle.common.specs.declared.refusal.Slice.{Slice}
@@ -9,7 +9,6 @@ use Rattle.schema_check.specs.Records.{said_found, said_checked}
 use Rattle.schema_check.specs.declared.records.Counts.{Counts}
 use Rattle.schema_check.specs.declared.records.Found.{Found}
 use Rattle.schema_check.specs.declared.records.Found.TheVariants.{Records, Bad}
-use Rattle.schema_check.specs.declared.records.Checked.{Checked}
 use Rattle.schema_check.specs.declared.records.Checked.TheVariants.{Counted, Refused}
 
 pub found_is : (c : Counts) (n : ℕ) (q : Got Counts) → got c n ≡ q → said_found (Records c n) ≡ q

@@ -4,7 +4,7 @@
 -- name's place is tested, likewise 10, only where names are read." Assumes nothing.
 use Rattle.std.specs.Prelude.{ℕ, zero, suc, ◌+◌, ◌-◌, ◌/◌, Bool, true, false, List, ltb, leb, eqb, length, get_or}
 use Rattle.common.specs.Choose.{pick, bind}
-use Rattle.common.specs.Got.{Got, got, bad, on, Reader, ◌>>=◌, ret, within}
+use Rattle.common.specs.Got.{Got, got, bad, Reader, ◌>>=◌, ret, within}
 use Rattle.common.specs.Refusals.{Outcome, taken, refused, said_refusal}
 use Rattle.number_fixed.specs.BigEndian.{big_endian}
 use Rattle.common.specs.declared.refusal.Fault.TheVariants.{OverLimit, BadRecord}

@@ -1,4 +1,3 @@
-use Prim.Native.Nat.{◌-◌}
 use Rattle.schema_check.proofs.Runs.{running}
 use borrow.Author.Rules.{rules}
 use Rattle.schema_check.proofs.records.run.Goals as goal
