@@ -1,0 +1,14 @@
+use Rattle.call_check.proofs.Schemas.{tables}
+use Rattle.common.proofs.Puts.{puts_same}
+use Rattle.print_page.proofs.Paging.{page_counted, page_unchecked}
+use borrow.Author.Rules.{rules}
+use Rattle.print_page.proofs.fill_page.Goals as goal
+
+pub fill-requires : goal.fill-requires
+fill-requires c = search (page_counted, page_unchecked, tables, puts_same, rules)
+
+pub returns-in-Counted : goal.returns-in-Counted
+returns-in-Counted c = search (page_counted, page_unchecked, tables, puts_same, rules)
+
+pub returns-in-Refused : goal.returns-in-Refused
+returns-in-Refused c = search (page_counted, page_unchecked, tables, puts_same, rules)
