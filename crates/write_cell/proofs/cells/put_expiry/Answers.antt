@@ -1,0 +1,21 @@
+use Rattle.common.proofs.Choose.{cases}
+use Rattle.common.proofs.Puts.{puts}
+use Rattle.write_form.specs.Cells.{expiry_bytes}
+use Rattle.write_number.proofs.Writing.{writing, own_room}
+use borrow.Author.Rules.{rules}
+use Rattle.write_cell.proofs.cells.put_expiry.Goals as goal
+
+pub returns-then-cell-eq0 : goal.returns-then-cell-eq0
+unfolding expiry_bytes
+returns-then-cell-eq0 c = search (writing, puts, cases) depth 12
+
+pub returns-then-same_expiry-eq1 : goal.returns-then-same_expiry-eq1
+unfolding expiry_bytes
+returns-then-same_expiry-eq1 c = search (writing, puts, cases) depth 12
+
+pub put_own-requires : goal.put_own-requires
+put_own-requires c = search (own_room, rules)
+
+pub returns : goal.returns
+unfolding expiry_bytes
+returns c = search (writing, puts, cases) depth 12

@@ -1,0 +1,12 @@
+use Rattle.common.proofs.Puts.{room_left, room_right, puts_then}
+use borrow.Author.Rules.{rules}
+use Rattle.write_row_parts.proofs.pairs.put_pair.Goals as goal
+
+pub put_delta-p-requires : goal.put_delta-p-requires
+put_delta-p-requires c = search (room_left, room_right, puts_then, rules)
+
+pub put_delta-requires : goal.put_delta-requires
+put_delta-requires c = search (room_left, room_right, puts_then, rules)
+
+pub returns : goal.returns
+returns c = search (room_left, room_right, puts_then, rules)
