@@ -1,5 +1,5 @@
-/* The C interface of the library. Link target/staticlib/libsstable.a (made by `rt staticlib sstable`) and, for the calls that take bases
- * and sstable_value, target/staticlib/libsstable_data.a (made by `rt staticlib sstable_data`).
+/* The C interface of the library. Link crates/sstable/out/libsstable.a (made by `rt lib` in crates/sstable) and, for the calls that take bases
+ * and sstable_value, crates/sstable_data/out/libsstable_data.a (made by `rt lib` in crates/sstable_data).
  *
  * Every call is total: it takes any bytes, and either answers or refuses with a number, a slice and a place. A refusal changes
  * no lent byte. Slices are a pointer and a length; a length of 0 goes with any pointer that is not null.

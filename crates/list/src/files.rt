@@ -1,10 +1,12 @@
 // Reading the files of a folder.
-ghost use Rattle.std.specs.Prelude.{◌+◌, ◌≤◌, length};
+ghost use Rattle.std.specs.Prelude.{◌+◌, ◌≤◌, length, IfOk, IfSome};
 ghost use Rattle.common.specs.Store.{Room, Puts};
 ghost use Rattle.list.specs.Files.{name_of, path_of, Loads};
 
 use common::part;
-use libc::STDOUT_FILENO;
+use std::io::Read;
+use std::rt::Files;
+use std::{fs, io};
 
 // What came of reading a file.
 #[derive(Clone, Copy)]
@@ -15,13 +17,13 @@ pub(crate) enum Loaded {
     Not,
 }
 
-// Says what is not listed, and why.
-pub(crate) fn say(folder: &[u8], name: &[u8], why: &[u8]) {
-    io::write_all(STDOUT_FILENO, b"not listed: ");
-    io::write_all(STDOUT_FILENO, folder);
-    io::write_all(STDOUT_FILENO, b"/");
-    io::write_all(STDOUT_FILENO, name);
-    io::write_all(STDOUT_FILENO, why);
+// Says what is not listed, and why. An error is the output's: the line may then be cut short.
+pub(crate) fn say(rt: &impl Print, folder: &[u8], name: &[u8], why: &[u8]) -> io::Result<()> {
+    rt.write_all(b"not listed: ")?;
+    rt.write_all(folder)?;
+    rt.write_all(b"/")?;
+    rt.write_all(name)?;
+    rt.write_all(why)
 }
 
 // Stores the bytes w at at: the place after them.
@@ -51,46 +53,74 @@ fn put_path(d: &mut [u8], folder: &[u8], name: &[u8]) -> usize
     put_name(d, next, name)
 }
 
-// Opens the file of the path that is the first n bytes.
-fn open_path(path: &[u8], n: usize) -> i32
+// Opens the file of the path that is the first n bytes. A path is text: one that is not UTF-8 cannot be opened.
+fn open_path<R: Files>(rt: &R, path: &[u8], n: usize) -> Option<R::File>
     requires { n ≤ length path.now }
 {
-    os::open_read(&path[..n])
+    let text = str::from_utf8(&path[..n]).ok()?;
+    fs::open(rt, text).ok()
 }
 
-// Opens a file of a folder: a descriptor, or a negative number.
-fn open_in(folder: &[u8], name: &[u8]) -> i32
+// Opens a file of a folder, where it can be opened.
+fn open_in<R: Files>(rt: &R, folder: &[u8], name: &[u8]) -> Option<R::File>
     requires { length name.now ≤ 64 }
 {
     let mut path = [0u8; 4200];
     if folder.len() > 4096 {
-        return -1;
+        return None;
     }
     let n = put_path(&mut path, folder, name);
-    open_path(&path, n)
+    open_path(rt, &path, n)
 }
 
-// Reads all of a file into buf, from its start on.
-pub(crate) fn load(folder: &[u8], name: &[u8], buf: &mut [u8]) -> Loaded
-    requires { length name.now ≤ 64 }
-    ensures { Loads result buf.new }
+// Reads until buf is full or the input ends: how many bytes were put at the start of buf.
+fn read_full(file: &mut impl Read, buf: &mut [u8]) -> io::Result<usize>
+    ensures { IfOk result (λ n. n ≤ length buf.new) }
 {
-    let fd = open_in(folder, name);
-    if fd < 0 {
-        say(folder, name, b" cannot be opened\n");
-        return Loaded::Not;
+    let mut done = 0;
+    while done < buf.len() {
+        let n = file.read(&mut buf[done..])?;
+        if n == 0 {
+            break;
+        }
+        done += n;
     }
-    let n = io::read_full(fd, buf);
+    Ok(done)
+}
+
+// Reads all of a file into buf: how many bytes it has, or None where it has more than buf.
+fn read_file(file: &mut impl Read, buf: &mut [u8]) -> io::Result<Option<usize>>
+    ensures { IfOk result (λ r. IfSome r (λ n. n ≤ length buf.new)) }
+{
+    let n = read_full(file, buf)?;
     let mut more = [0u8; 1];
-    let got = libc::read(fd, &mut more);
-    libc::close(fd);
-    if got == 0 {
-        return Loaded::Bytes(n);
+    let got = file.read(&mut more)?;
+    if got == 0 { Ok(Some(n)) } else { Ok(None) }
+}
+
+// Reads all of a file into buf, from its start on. An error is the output's, where what is not listed could not be said.
+pub(crate) fn load(
+    rt: &(impl Files + Print),
+    folder: &[u8],
+    name: &[u8],
+    buf: &mut [u8],
+) -> io::Result<Loaded>
+    requires { length name.now ≤ 64 }
+    ensures { IfOk result (λ loaded. Loads loaded buf.new) }
+{
+    let Some(mut file) = open_in(rt, folder, name) else {
+        say(rt, folder, name, b" cannot be opened\n")?;
+        return Ok(Loaded::Not);
+    };
+    match read_file(&mut file, buf) {
+        Ok(Some(n)) => Ok(Loaded::Bytes(n)),
+        Ok(None) => {
+            say(rt, folder, name, b" is too long\n")?;
+            Ok(Loaded::Not)
+        }
+        Err(_) => {
+            say(rt, folder, name, b" cannot be read\n")?;
+            Ok(Loaded::Not)
+        }
     }
-    if got > 0 {
-        say(folder, name, b" is too long\n");
-        return Loaded::Not;
-    }
-    say(folder, name, b" cannot be read\n");
-    Loaded::Not
 }

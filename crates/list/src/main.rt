@@ -6,6 +6,9 @@ mod files; // files.rt: reading the files
 mod report; // report.rt: what is printed of them
 
 use files::Loaded;
+use std::env::FillError;
+use std::io;
+use std::rt::{Env, Files};
 
 // Whether two files of n and m bytes have together more than 65,536.
 fn is_over(n: usize, m: usize) -> bool {
@@ -16,56 +19,48 @@ fn is_over(n: usize, m: usize) -> bool {
 }
 
 // Lists the files of a folder.
-fn list_folder(folder: &[u8]) {
-    let mut statistics = io::large_buffer();
-    let mut data = io::large_buffer();
-    let Loaded::Bytes(n) = files::load(folder, b"Statistics.db", &mut statistics) else {
-        return;
+fn list_folder(rt: &(impl Files + Print), folder: &[u8]) -> io::Result<()> {
+    let mut statistics = [0u8; 65536];
+    let mut data = [0u8; 65536];
+    let Loaded::Bytes(n) = files::load(rt, folder, b"Statistics.db", &mut statistics)? else {
+        return Ok(());
     };
-    let Loaded::Bytes(m) = files::load(folder, b"Data.db", &mut data) else {
-        return;
+    let Loaded::Bytes(m) = files::load(rt, folder, b"Data.db", &mut data)? else {
+        return Ok(());
     };
     if is_over(n, m) {
-        files::say(
+        return files::say(
+            rt,
             folder,
             b"Data.db",
             b" makes more than 65,536 bytes together with Statistics.db\n",
         );
-        return;
     }
-    report::print(&statistics, n, &data, m);
+    report::print(rt, &statistics, n, &data, m)
 }
 
-// Lists the folder that argument i names.
-fn list_argument(i: usize) {
-    let mut folder = io::buffer();
-    let n = os::arg(i, &mut folder);
-    if os::errno() != 0 {
-        io::write_all(
-            libc::STDOUT_FILENO,
-            b"not listed: a folder whose name is too long\n",
-        );
-        return;
+// Lists the folder that argument i names: whether there is such an argument.
+fn list_argument(rt: &(impl Env + Files + Print), i: usize) -> io::Result<bool> {
+    let mut folder = [0u8; 4096];
+    match rt.arg(i, &mut folder) {
+        Ok(0) => rt.write_all(b"not listed: a folder without a name\n")?,
+        Ok(n) => list_folder(rt, &folder[..n])?,
+        Err(FillError::TooLong) => {
+            rt.write_all(b"not listed: a folder whose name is too long\n")?;
+        }
+        Err(FillError::NotPresent) => return Ok(false),
     }
-    if n == 0 {
-        io::write_all(
-            libc::STDOUT_FILENO,
-            b"not listed: a folder without a name\n",
-        );
-        return;
-    }
-    list_folder(&folder[..n]);
+    Ok(true)
 }
 
-fn main() {
-    let count = os::arg_count();
-    if count < 2 {
-        list_folder(b".");
-        return;
+fn main(rt: HostRuntime) -> io::Result<()> {
+    if !list_argument(&rt, 1)? {
+        return list_folder(&rt, b".");
     }
-    let mut i: usize = 1;
-    while i < count {
-        list_argument(i);
-        i += 1;
+    for i in 2..usize::MAX {
+        if !list_argument(&rt, i)? {
+            break;
+        }
     }
+    Ok(())
 }

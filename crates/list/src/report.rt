@@ -1,5 +1,5 @@
 // What is printed of the two files.
-ghost use Rattle.std.specs.Prelude.{◌≡◌, ◌*◌, ◌≤◌, length, take};
+ghost use Rattle.std.specs.Prelude.{◌≡◌, ◌*◌, ◌≤◌, length, take, IfOk};
 ghost use Rattle.stats_file.specs.Buffer.{column_count};
 ghost use Rattle.print_page.specs.Pages.{page_at, answer_of, len_of};
 ghost use Rattle.list.specs.Reports.{counted_at, begun_at, begun_of, Fit};
@@ -7,13 +7,13 @@ ghost use Rattle.list.specs.Reports.{counted_at, begun_at, begun_of, Fit};
 use common::refusal::Refusal;
 use common::times::Bases;
 use data_walk::cursors::Cursor;
-use libc::STDOUT_FILENO;
 use list_call::lists;
 use list_call::lists::Listed;
 use print_line::refusals;
 use print_page::Filled;
 use stats_file::Answer;
 use stats_file::columns::Sizes;
+use std::io;
 
 // Whether the files are listed.
 #[derive(Clone, Copy)]
@@ -60,11 +60,11 @@ fn begin(file: &[u8], data: &[u8], schema: &mut [u8]) -> Begun
     }
 }
 
-// Prints the first n bytes.
-fn write(page: &[u8], n: usize)
+// Prints the first n bytes. An error is the output's, here and below: some of what was to be printed may then be missing.
+fn write(rt: &impl Print, page: &[u8], n: usize) -> io::Result<()>
     requires { n ≤ length page.now }
 {
-    io::write_all(STDOUT_FILENO, &page[..n]);
+    rt.write_all(&page[..n])
 }
 
 // How many bytes of a page are filled.
@@ -78,68 +78,83 @@ fn length_of(filled: Filled) -> usize
 }
 
 // Prints the page of the cursor, by way of the buffer: what its filling answered.
-fn print_by(page: &mut [u8], schema: &[u8], bases: Bases, data: &[u8], cursor: Cursor) -> Filled
+fn print_by(
+    rt: &impl Print,
+    page: &mut [u8],
+    schema: &[u8],
+    bases: Bases,
+    data: &[u8],
+    cursor: Cursor,
+) -> io::Result<Filled>
     requires { 4032 ≤ length page.old }
-    ensures { result ≡ answer_of (page_at schema.now bases «data».now cursor) }
+    ensures { IfOk result (λ filled. filled ≡ answer_of (page_at schema.now bases «data».now cursor)) }
 {
     let filled = print_page::fill_page(schema, bases, data, cursor, page);
-    write(page, length_of(filled));
-    filled
+    write(rt, page, length_of(filled))?;
+    Ok(filled)
 }
 
 // Prints the page of the cursor.
-fn print_page(schema: &[u8], bases: Bases, data: &[u8], cursor: Cursor) -> Filled
-    ensures { result ≡ answer_of (page_at schema.now bases «data».now cursor) }
+fn print_page(
+    rt: &impl Print,
+    schema: &[u8],
+    bases: Bases,
+    data: &[u8],
+    cursor: Cursor,
+) -> io::Result<Filled>
+    ensures { IfOk result (λ filled. filled ≡ answer_of (page_at schema.now bases «data».now cursor)) }
 {
-    let mut page = io::buffer();
-    print_by(&mut page, schema, bases, data, cursor)
+    let mut page = [0u8; 4096];
+    print_by(rt, &mut page, schema, bases, data, cursor)
 }
 
 // Prints the lines of the listing.
-fn print_lines(schema: &[u8], bases: Bases, data: &[u8]) {
+fn print_lines(rt: &impl Print, schema: &[u8], bases: Bases, data: &[u8]) -> io::Result<()> {
     let mut x = Cursor::start();
     loop {
-        match print_page(schema, bases, data, x) {
+        match print_page(rt, schema, bases, data, x)? {
             Filled::More { len: _, cursor } => {
                 x = cursor;
             }
             Filled::Last(_) => {
-                return;
+                return Ok(());
             }
         }
     }
 }
 
 // Prints the listing of Data, in a table whose schema records are the first len bytes.
-fn print_listing(schema: &[u8], len: usize, bases: Bases, data: &[u8])
+fn print_listing(
+    rt: &impl Print,
+    schema: &[u8],
+    len: usize,
+    bases: Bases,
+    data: &[u8],
+) -> io::Result<()>
     requires { len ≤ length schema.now }
 {
-    print_lines(&schema[..len], bases, data);
+    print_lines(rt, &schema[..len], bases, data)
 }
 
 // Prints a refusal's line.
-fn print_refusal(refusal: Refusal) {
-    let mut page = io::buffer();
+fn print_refusal(rt: &impl Print, refusal: Refusal) -> io::Result<()> {
+    let mut page = [0u8; 4096];
     let len = refusals::put_refusal(&mut page, 0, refusal);
-    write(&page, len);
+    write(rt, &page, len)
 }
 
 // Prints the listing of Data, or the refusal.
-fn print_files(file: &[u8], data: &[u8]) {
+fn print_files(rt: &impl Print, file: &[u8], data: &[u8]) -> io::Result<()> {
     let mut schema = [0u8; 2544];
     match begin(file, data, &mut schema) {
-        Begun::Listing { bases, len } => {
-            print_listing(&schema, len, bases, data);
-        }
-        Begun::Refused(refusal) => {
-            print_refusal(refusal);
-        }
+        Begun::Listing { bases, len } => print_listing(rt, &schema, len, bases, data),
+        Begun::Refused(refusal) => print_refusal(rt, refusal),
     }
 }
 
 // Prints what the files give: Statistics is the first n bytes of file, Data the first m of data.
-pub(crate) fn print(file: &[u8], n: usize, data: &[u8], m: usize)
+pub(crate) fn print(rt: &impl Print, file: &[u8], n: usize, data: &[u8], m: usize) -> io::Result<()>
     requires { (n ≤ length file.now) × (m ≤ length «data».now) }
 {
-    print_files(&file[..n], &data[..m]);
+    print_files(rt, &file[..n], &data[..m])
 }
