@@ -1,0 +1,12 @@
+use Rattle.common.proofs.Choose.{cases, told}
+use Rattle.write_accept.specs.Tests.{bad_partition_flags}
+use Rattle.write_record.proofs.Said.{unlikes}
+use Rattle.write_record.proofs.tests.is_bad_partition_flags.Goals as goal
+
+pub returns-then-f-gt15 : goal.returns-then-f-gt15
+unfolding bad_partition_flags
+returns-then-f-gt15 c = search (unlikes, told, cases) depth 12
+
+pub returns : goal.returns
+unfolding bad_partition_flags
+returns c = search (unlikes, told, cases) depth 12
