@@ -1,0 +1,8 @@
+use Rattle.common.proofs.Choose.{cases, told}
+use Rattle.sstable_data.specs.Data.{times_in}
+use borrow.Author.Rules.{rules}
+use Rattle.sstable_data.proofs.data_db.times_in.Goals as goal
+
+pub returns : goal.returns
+unfolding times_in
+returns c = search (told, cases, rules) depth 12

@@ -1,0 +1,27 @@
+use Rattle.write_store.proofs.PutRows.{knowns, plains}
+use Rattle.call_check.proofs.Schemas.{tables}
+use borrow.Author.Rules.{rules}
+use Rattle.write_store.proofs.entries.put_row_cells.Goals as goal
+
+pub size_cells-requires : goal.size_cells-requires
+size_cells-requires c = search (knowns, rules) depth 12
+
+pub overflow_sub-many : goal.overflow_sub-many
+overflow_sub-many c = search (plains, tables, rules) depth 12
+
+pub put_plain-out-requires : goal.put_plain-out-requires
+put_plain-out-requires c = (
+  search (rules) depth 12,
+  search (tables, rules) depth 12,
+  search (tables, rules) depth 12,
+  search (plains, tables, rules) depth 12,
+  search (rules) depth 12,
+  search (plains, tables, rules) depth 12,
+  search (plains, tables, rules) depth 12,
+)
+
+pub returns-in-To : goal.returns-in-To
+returns-in-To c = search (plains, tables, rules) depth 12
+
+pub returns-in-Refused : goal.returns-in-Refused
+returns-in-Refused c = search (plains, tables, rules) depth 12
