@@ -10,7 +10,7 @@ use borrow.Author.Tests.{le-leb, ltb-true, ltb-false, eqb-true, eqb-false}
 use lib.Dec.{ltb, eqb}
 use lib.ListN.{length, get_or, take}
 use Rattle.common.specs.Choose.{pick}
-use Rattle.common.specs.Got.{Got, got, bad, on}
+use Rattle.common.specs.Got.{Got, got, bad}
 use Rattle.common.specs.declared.refusal.Fault.TheVariants.{PastEnd}
 use Rattle.common.proofs.Choose.{pick_yes, pick_ind}
 use Rattle.common.proofs.Gives.{Gives, gives_got, gives_bad, gives_on, gives_pick, gives_bind}

@@ -4,7 +4,7 @@ use mathlib.Core.Bool.{Bool, true, false}
 use mathlib.Core.List.{List, [], ◌∷◌, ◌++◌}
 use mathlib.Core.Logic.{◌⊎◌, inl, inr}
 use mathlib.Core.Option.{Option}
-use Prim.Native.Nat.{ℕ, zero, suc, ◌+◌, ◌-◌, ◌*◌, ◌≤◌, ◌<◌}
+use Prim.Native.Nat.{ℕ, zero, suc, ◌+◌, ◌*◌, ◌≤◌, ◌<◌}
 use native.Mathlib.Omega.{arith}
 use borrow.Author.Tests.{le-ltb, lt-leb, eq-eqb, ne_eqb}
 use lib.Dec.{ltb, eqb}
@@ -20,7 +20,7 @@ use Rattle.data_field.specs.declared.fields.Deletion.{Deletion}
 use Rattle.data_field.specs.declared.fields.Span.{Span}
 use Rattle.data_cell.specs.declared.cells.Cell.{Cell}
 use Rattle.data_clustering.specs.Prefixes.{bad_header, values_at, widths_at}
-use Rattle.data_row.specs.Bodies.{times, columns}
+use Rattle.data_row.specs.Bodies.{columns}
 use Rattle.data_row.specs.Rows.{row_at}
 use Rattle.data_row.specs.declared.bodies.Body.{Body}
 use Rattle.data_row.specs.declared.rows.Row.{Row}

@@ -1,18 +1,16 @@
 -- Where the columns of a state that is not refused stand: in the schema. Assumes nothing.
-use mathlib.Core.Path.{◌≡◌, refl, sym, ap, ◌∙◌}
+use mathlib.Core.Path.{◌≡◌, refl, sym, ◌∙◌}
 use mathlib.Core.Bool.{Bool, true, false}
-use mathlib.Core.Logic.{◌⊎◌, inl, inr}
 use Prim.Native.Nat.{ℕ, zero, suc, ◌+◌, ◌-◌, ◌*◌, ◌/◌, ◌%◌, ◌^◌, ◌≤◌, ◌<◌}
 use native.Mathlib.Omega.{arith}
 use native.Mathlib.Nat.{pow-suc}
 use borrow.Author.Tests.{ltb-false, leb-false, eqb-true}
-use lib.Dec.{ltb, leb, eqb}
 use lib.Pow.{shr_lt, pow_pos}
 use lib.Count.{count_trailing_zeros, under, trailing_le}
 use Rattle.common.specs.Choose.{pick, bind}
 use Rattle.data_row.specs.Bodies.{columns}
 use Rattle.schema_check.specs.declared.records.Counts.{Counts}
-use Rattle.data_walk.specs.Cursors.{outside, bad_column, bad_values, bad_prefix, bad_cells}
+use Rattle.data_walk.specs.Cursors.{bad_column, bad_values, bad_prefix, bad_cells}
 use Rattle.data_walk.specs.declared.cursors.Cursor.{Cursor}
 
 -- ---- tests that did not refuse

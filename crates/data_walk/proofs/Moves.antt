@@ -1,16 +1,14 @@
 -- Every step that hands out an item moves on: `remaining` falls. So a walk ends, and unfolds by one step. Assumes nothing.
-use mathlib.Core.Path.{◌≡◌, refl, sym, ap, ◌∙◌}
-use mathlib.Core.Bool.{Bool, true, false}
+use mathlib.Core.Path.{◌≡◌, refl, ap, ◌∙◌}
 use mathlib.Core.List.{List, []}
 use mathlib.Core.Logic.{◌⊎◌, inl, inr}
-use mathlib.Core.Option.{Option, none, some}
-use Prim.Native.Nat.{ℕ, zero, suc, ◌+◌, ◌-◌, ◌*◌, ◌/◌, ◌^◌, ◌≤◌, ◌<◌}
+use mathlib.Core.Option.{none, some}
+use Prim.Native.Nat.{ℕ, zero, suc, ◌+◌, ◌-◌, ◌/◌, ◌^◌, ◌≤◌, ◌<◌}
 use native.Mathlib.Omega.{arith}
 use borrow.Author.Tests.{ltb-false}
-use lib.Count.{count_trailing_zeros}
 use lib.Dec.{ltb, eqb}
-use lib.ListN.{length, get_or}
-use Rattle.common.specs.Choose.{pick, bind}
+use lib.ListN.{length}
+use Rattle.common.specs.Choose.{bind}
 use Rattle.common.specs.Got.{Got, got, bad}
 use Rattle.common.specs.Refusals.{Outcome, taken, refused}
 use Rattle.common.specs.declared.times.Bases.{Bases}
@@ -25,7 +23,7 @@ use Rattle.data_row.specs.declared.rows.Row.{Row}
 use Rattle.data_marker.proofs.Gives.{marker_gives}
 use Rattle.data_partition.specs.Partitions.{partition_at, deleted_at, deleted_by}
 use Rattle.schema_check.specs.declared.records.Counts.{Counts}
-use Rattle.data_walk.specs.Cursors.{bad_values, bad_prefix, bad_cells, at_items, at_cells, behind_value, behind_cell, behind_marker, behind_row}
+use Rattle.data_walk.specs.Cursors.{at_items, at_cells, behind_value, behind_cell, behind_marker, behind_row}
 use Rattle.data_walk.specs.Steps.{Handed, Answer, handed, partition_step, end_step, marker_step, row_handed, row_step, item_step, value_step, cell_step, cells_step, partition_answer, item_answer, values_answer, prefix_answer, cells_answer, statics_answer, step_in}
 use Rattle.call_check.specs.Tables.{Table}
 use Rattle.data_walk.specs.Walks.{reach_in, left_in, remaining, follow, add, walk_in, walk_from}

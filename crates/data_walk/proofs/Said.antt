@@ -1,7 +1,7 @@
 -- What the code's answers say, for `search`. Assumes nothing.
 use mathlib.Core.Path.{◌≡◌, refl, sym, ap, ◌∙◌}
-use Prim.Native.Nat.{ℕ, ◌+◌, ◌*◌}
-use Rattle.common.specs.Got.{Got, got, bad, on}
+use Prim.Native.Nat.{ℕ}
+use Rattle.common.specs.Got.{Got, bad}
 use Rattle.common.specs.Refusals.{Outcome, taken, refused}
 use Rattle.common.specs.declared.refusal.Fault.{Fault}
 use Rattle.common.specs.declared.refusal.Refusal.{Refusal}
@@ -18,7 +18,7 @@ use Rattle.schema_check.specs.Records.{said_checked}
 use Rattle.schema_check.specs.declared.records.Counts.{Counts}
 use Rattle.schema_check.specs.declared.records.Checked.{Checked}
 use Rattle.schema_check.specs.declared.records.Checked.TheVariants.{Counted, Refused as Checked-Refused}
-use Rattle.data_walk.specs.Steps.{Handed, Answer, hands, handed, partition_answer, item_answer, values_answer, prefix_answer, statics_answer, cells_answer, is_static, is_of_cells, columns_at, columns_of, lacking, columns_answer, step_in, said_moved, said_step}
+use Rattle.data_walk.specs.Steps.{Handed, Answer, hands, handed, partition_answer, item_answer, values_answer, prefix_answer, statics_answer, is_static, is_of_cells, columns_at, columns_of, lacking, columns_answer, step_in, said_moved, said_step}
 use Rattle.call_check.specs.Tables.{after}
 use Rattle.data_items.specs.declared.Item.{Item}
 use Rattle.data_walk.specs.declared.cursors.Cursor.{Cursor}
@@ -26,7 +26,6 @@ use Rattle.data_walk.specs.declared.cursors.Phase.{Phase}
 use Rattle.data_walk.specs.declared.cursors.Phase.TheVariants.{Partition, First, Items, Values, Prefix, Statics, Cells}
 use Rattle.data_walk.specs.declared.steps.Moved.{Moved}
 use Rattle.data_walk.specs.declared.steps.Moved.TheVariants.{Next as moved-next, Refused as moved-refused}
-use Rattle.data_walk.specs.declared.steps.Step.{Step}
 use Rattle.data_walk.specs.declared.steps.Step.TheVariants.{Next, Done, Refused}
 
 -- ---- Moved

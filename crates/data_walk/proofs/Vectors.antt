@@ -11,7 +11,7 @@ use Rattle.common.specs.Refusals.{taken, refused}
 use Rattle.number_fixed.specs.BigEndian.{big_endian, fixed_at}
 use Rattle.number_varint.specs.Varints.{leading, low, varint_at}
 use Rattle.common.specs.declared.refusal.Fault.TheVariants.{PastEnd, LeftOver, BadRecord, OutOfRange}
-use Rattle.common.specs.declared.refusal.Slice.TheVariants.{Data, Schema, State, Bases as bases-slice}
+use Rattle.common.specs.declared.refusal.Slice.TheVariants.{Data, Schema, Bases as bases-slice}
 use Rattle.common.specs.declared.times.Bases.{Bases}
 use Rattle.data_field.specs.Fields.{live, byte_at, in_at, deletion_at, variable_at, value_at}
 use Rattle.data_cell.specs.Cells.{bad_flags, flags_at, last_at, expiring_at, content_at, timed_at, cell_at}
@@ -31,7 +31,7 @@ use Rattle.data_items.specs.Items.{item, zeroed, mark_of, time_of, partition_fla
 use Rattle.data_walk.specs.Cursors.{hand, cursor, none, outside, bad_column, bad_values, bad_cells, at_items, at_cells, behind_value, behind_cell, behind_row}
 use Rattle.data_walk.specs.Steps.{Answer, bad_state, done, partition_step, end_step, row_handed, row_step, item_step, value_step, cell_step, cells_step, handed, partition_answer, item_answer, values_answer, cells_answer, statics_answer, step_in, step_at}
 use Rattle.call_check.specs.Tables.{bad_bases, after, table_at}
-use Rattle.data_walk.specs.declared.cursors.Phase.TheVariants.{Partition, First, Items, Values, Statics, Cells}
+use Rattle.data_walk.specs.declared.cursors.Phase.TheVariants.{Partition, First, Values, Statics, Cells}
 use Rattle.data_walk.specs.declared.cursors.Cursor.{Cursor}
 
 abbrev base : Bases

@@ -1,6 +1,6 @@
 -- The cursor's state: "A state past the end, or with a column or phase that the schema lacks, gives 10" (decisions L12, L13), and the states
 -- that follow. Assumes nothing.
-use Rattle.std.specs.Prelude.{ℕ, ◌+◌, Bool, true, false, ltb, leb, eqb}
+use Rattle.std.specs.Prelude.{ℕ, ◌+◌, Bool, true, ltb, leb, eqb}
 use Rattle.common.specs.Choose.{pick, bind}
 use Rattle.data_field.specs.declared.fields.Deletion.{Deletion}
 use Rattle.data_cell.specs.declared.cells.Times.{Times}

@@ -1,6 +1,6 @@
 -- "One step takes the walk's state by value and hands back the next item and state": c is the schema, k its columns' counts, b the bases, s
 -- Data, x the cursor. Assumes nothing.
-use Rattle.std.specs.Prelude.{ℕ, ◌+◌, ◌*◌, ◌/◌, ◌^◌, Bool, true, false, List, ltb, leb, eqb, length, get_or}
+use Rattle.std.specs.Prelude.{ℕ, ◌+◌, ◌*◌, ◌/◌, ◌^◌, Bool, true, false, List, ltb, eqb, length, get_or}
 use Rattle.std.proofs.Math.Option.{Option, none, some}
 use Rattle.std.specs.Int.Count.{count_trailing_zeros}
 use Rattle.common.specs.Choose.{pick, bind}

@@ -1,6 +1,6 @@
 -- A walk over Data, step by step to its end: the items that it hands out, or the refusal that ends it. Assumes nothing.
 use Rattle.std.specs.Prelude.{ℕ, zero, suc, ◌+◌, ◌-◌, ◌*◌, List, [], ◌∷◌, length}
-use Rattle.std.proofs.Math.Option.{Option, none, some}
+use Rattle.std.proofs.Math.Option.{none, some}
 use Rattle.common.specs.Refusals.{Outcome, taken, refused}
 use Rattle.common.specs.declared.times.Bases.{Bases}
 use Rattle.data_field.specs.Fields.{live}

@@ -1,14 +1,14 @@
 -- The cases of the listing's answer. Assumes nothing.
 use mathlib.Core.Path.{◌≡◌, refl, sym, ap, ◌∙◌}
 use mathlib.Core.List.{List, [], ◌∷◌}
-use mathlib.Core.Option.{Option, none, some}
+use mathlib.Core.Option.{none, some}
 use Prim.Native.Nat.{ℕ, zero, suc, ◌+◌, ◌*◌, ◌/◌, ◌≤◌, ◌<◌}
 use native.Mathlib.Omega.{arith}
 use borrow.Author.Tests.{lt-ltb, le-ltb}
 use lib.Dec.{ltb}
 use lib.ListN.{length}
 use Rattle.common.specs.Choose.{pick, bind}
-use Rattle.common.specs.Refusals.{Outcome, taken, refused, said_refusal}
+use Rattle.common.specs.Refusals.{Outcome, taken, refused}
 use Rattle.common.specs.Store.{splice}
 use Rattle.common.specs.declared.refusal.Fault.{Fault}
 use Rattle.common.specs.declared.refusal.Fault.TheVariants.{NoRoom}
@@ -23,7 +23,7 @@ use Rattle.schema_check.specs.declared.records.Checked.{Checked}
 use Rattle.schema_check.specs.declared.records.Checked.TheVariants.{Counted, Refused as Checked-Refused}
 use Rattle.data_walk.specs.Cursors.{at_items}
 use Rattle.data_walk.specs.Steps.{Answer, step_in}
-use Rattle.call_check.specs.Tables.{Table, after, table_at}
+use Rattle.call_check.specs.Tables.{after, table_at}
 use Rattle.data_walk.specs.Walks.{start, remaining, add, follow, walk_in, walk_from}
 use Rattle.data_items.specs.declared.Item.{Item}
 use Rattle.data_walk.specs.declared.cursors.Cursor.{Cursor}

@@ -30,7 +30,6 @@ use Rattle.list_count.specs.Counted.{whole_cells_at}
 use Rattle.list_count.proofs.Rows.{ok, entry_as, present_statics, present_regulars}
 use Rattle.list_call.specs.Records.{record_of, records_of}
 use Rattle.list_call.specs.Parts.{cells_of, values_of, entry_of, statics_at, regulars_at, clustering_of, Fitting, FittingStatic, FittingRow, PutsEntry}
-use Rattle.list_call.specs.declared.fills.Behind.{Behind}
 use Rattle.list_call.proofs.PutCells.{cells_of_lem}
 use Rattle.list_call.proofs.PutValues.{values_of_lem}
 

@@ -1,11 +1,10 @@
 -- A signed number stored as its bits. Assumes nothing.
-use mathlib.Core.Path.{◌≡◌, refl}
-use mathlib.Core.List.{List, ◌++◌}
+use mathlib.Core.Path.{◌≡◌}
+use mathlib.Core.List.{List}
 use Prim.Native.Nat.{ℕ}
 use Rattle.number_fixed.specs.BigEndian.{bytes_of}
 use Rattle.common.specs.Times.{biased}
 use Rattle.common.specs.Store.{Room, Puts}
-use Rattle.common.proofs.Puts.{room_left, room_right, puts_then}
 use Rattle.list_call.specs.Records.{signed_bytes}
 
 -- the bits of a signed number, given as the code's value

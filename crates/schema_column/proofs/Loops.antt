@@ -12,7 +12,6 @@ use Rattle.common.proofs.Choose.{pick_yes, pick_no}
 use Rattle.type_table.specs.Table.{line_of}
 use Rattle.schema_check.specs.Records.{role_at, line_at}
 use Rattle.schema_column.specs.Columns.{same_column, same_from, same_schemas, unordered_from, unordered_of}
-use Rattle.schema_column.specs.declared.Unordered.{Unordered}
 use Rattle.schema_column.specs.declared.Unordered.TheVariants.{At, None}
 
 -- ---- two schemas: the first i records are equal

@@ -16,7 +16,6 @@ use Rattle.common.proofs.RoundTrip.{Reads, reads_got, reads_on, reads_at, reads_
 use Rattle.common.proofs.Stands.{Stands, stands_left, stands_right}
 use Rattle.number_varint.proofs.Varints.{varint_back}
 use Rattle.type_table.specs.Table.{line_of}
-use Rattle.text.specs.Text.{same}
 use Rattle.text.proofs.Texts.{same_lengths}
 use Rattle.type_spelling.proofs.Spelled.{type_bytes, type_back}
 use Rattle.schema_check.specs.Records.{most_of}

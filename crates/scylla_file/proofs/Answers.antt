@@ -1,5 +1,5 @@
 -- What the answers of this crate say, in the direction of a contract `said r ≡ definition`. Assumes nothing.
-use mathlib.Core.Path.{◌≡◌, refl, sym, ap, ◌∙◌}
+use mathlib.Core.Path.{◌≡◌, sym, ◌∙◌}
 use Prim.Native.Nat.{ℕ}
 use Rattle.common.specs.Got.{Got, got, bad, on, within}
 use Rattle.common.specs.Refusals.{Outcome, taken, refused}

@@ -1,11 +1,10 @@
 -- Short files at the edges of the rules, as one statement: what reading each gives. Assumes nothing.
 use mathlib.Core.Path.{◌≡◌, refl}
-use mathlib.Core.Bool.{Bool, true, false, not}
 use mathlib.Core.List.{List, [], ◌∷◌, ◌++◌}
 use Prim.Native.Nat.{ℕ}
 use Rattle.common.specs.Choose.{pick, bind}
-use Rattle.common.specs.Got.{got, bad, on, within}
-use Rattle.common.specs.Refusals.{Outcome, taken, refused}
+use Rattle.common.specs.Got.{on, within}
+use Rattle.common.specs.Refusals.{taken, refused}
 use Rattle.number_fixed.specs.BigEndian.{big_endian, bytes_of, fixed_at}
 use Rattle.common.specs.declared.refusal.Fault.{Fault}
 use Rattle.common.specs.declared.refusal.Fault.TheVariants.{PastEnd, LeftOver, BadFlags, NotCarried, Repeated}

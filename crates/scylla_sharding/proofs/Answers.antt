@@ -1,6 +1,6 @@
 -- What the answers of this crate say, in the direction of a contract `said r ≡ definition`: with common's laws for numbers,
 -- `search (answers, reading, cases) depth 12` answers each return of a function that reads. Assumes nothing.
-use mathlib.Core.Path.{◌≡◌, refl, sym, ap, ◌∙◌}
+use mathlib.Core.Path.{◌≡◌, sym, ap, ◌∙◌}
 use mathlib.Core.Bool.{Bool, not}
 use Prim.Native.Nat.{ℕ}
 use Rattle.common.specs.Got.{Got, got, bad, on}

@@ -1,5 +1,5 @@
 -- Where numbers and what lengths announce end. Assumes nothing.
-use mathlib.Core.Path.{◌≡◌, refl, sym, ap, ◌∙◌}
+use mathlib.Core.Path.{◌≡◌}
 use mathlib.Core.List.{List}
 use Prim.Native.Nat.{ℕ, ◌+◌, ◌-◌, ◌^◌, ◌≤◌, ◌<◌}
 use native.Mathlib.Omega.{arith}
@@ -8,7 +8,7 @@ use lib.Dec.{ltb}
 use lib.ListN.{length}
 use mir.Syntax.{w64}
 use mir.Val.{Fits}
-use Rattle.common.specs.Got.{Got, said_num}
+use Rattle.common.specs.Got.{said_num}
 use Rattle.number_fixed.specs.BigEndian.{fixed_at}
 use Rattle.common.specs.declared.number.Num.{Num}
 use Rattle.common.specs.declared.number.Num.TheVariants.{Number}

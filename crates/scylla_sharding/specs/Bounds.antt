@@ -1,5 +1,5 @@
 -- Bounds of token ranges: how one is read, and which may follow which. Assumes nothing.
-use Rattle.std.specs.Prelude.{ℕ, ◌+◌, ◌%◌, ◌^◌, Bool, true, false, not, ltb, eqb}
+use Rattle.std.specs.Prelude.{ℕ, Bool, true, false, not, ltb, eqb}
 use Rattle.common.specs.Choose.{pick}
 use Rattle.common.specs.Times.{biased}
 use Rattle.common.specs.Got.{Got, got, bad, on, Reader, ◌>>=◌, ret}

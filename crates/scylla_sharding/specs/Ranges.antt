@@ -1,7 +1,7 @@
 -- Sharding metadata: "a sorted list of disjoint token ranges". Assumes nothing.
 use Rattle.std.specs.Prelude.{ℕ, zero, suc, List, [], ◌∷◌}
 use Rattle.common.specs.Choose.{pick}
-use Rattle.common.specs.Got.{Got, got, bad, on, Reader, ◌>>=◌, ret, filled}
+use Rattle.common.specs.Got.{got, bad, on, Reader, ◌>>=◌, ret, filled}
 use Rattle.number_fixed.specs.BigEndian.{fixed_at}
 use Rattle.common.specs.declared.refusal.Fault.TheVariants.{Repeated}
 use Rattle.scylla_sharding.specs.Bounds.{bound, bound_at, is_range, is_next}

@@ -1,5 +1,5 @@
 -- Lengths and what they announce, readings one after the other, and those of which only the place after them is kept. Assumes nothing.
-use Rattle.std.specs.Prelude.{ℕ, zero, suc, ◌-◌, List, ltb}
+use Rattle.std.specs.Prelude.{ℕ, zero, suc, ◌-◌, ltb}
 use Rattle.common.specs.Choose.{pick}
 use Rattle.common.specs.Got.{Got, got, bad, on, Reader, ◌>>=◌, ret}
 use Rattle.number_fixed.specs.BigEndian.{fixed_at}

@@ -1,9 +1,9 @@
 -- The loop over the pairs of the contents. Assumes nothing.
 use mathlib.Core.Path.{◌≡◌, refl, sym, ap, ◌∙◌}
 use mathlib.Core.List.{List}
-use Prim.Native.Nat.{ℕ, zero, suc, ◌+◌, ◌-◌, ◌*◌, ◌≤◌, ◌<◌}
+use Prim.Native.Nat.{ℕ, suc, ◌+◌, ◌-◌, ◌≤◌, ◌<◌}
 use native.Mathlib.Omega.{arith}
-use Rattle.common.specs.Got.{Got, got, bad, on, said_num}
+use Rattle.common.specs.Got.{on, said_num}
 use Rattle.common.specs.declared.refusal.Fault.{Fault}
 use Rattle.common.specs.declared.number.Num.{Num}
 use Rattle.common.specs.declared.number.Num.TheVariants.{Number, Refused as num-refused}
@@ -13,7 +13,6 @@ use Rattle.common.proofs.Gives.{gives_on, gives_got, gives_bad, gives_pick, give
 use Rattle.common.proofs.Said.{on_num, on_num_bad, num_got}
 use Rattle.stats_contents.specs.Contents.{none, with_entry, entry_type_at, offset_at, pairs_at, count_at, said_listed}
 use Rattle.stats_contents.specs.declared.contents.Contents.{Contents}
-use Rattle.stats_contents.specs.declared.contents.Listed.{Listed}
 use Rattle.stats_contents.specs.declared.contents.Listed.TheVariants.{Pairs, Refused}
 
 -- of n pairs, i are read into c, and the rest begins at p

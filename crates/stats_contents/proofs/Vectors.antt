@@ -4,10 +4,10 @@ use mathlib.Core.List.{List, [], ◌∷◌, ◌++◌}
 use Prim.Native.Nat.{ℕ}
 use lib.ListN.{length}
 use Rattle.common.specs.Choose.{pick, bind}
-use Rattle.common.specs.Got.{Got, got, bad, on}
+use Rattle.common.specs.Got.{got, bad, on}
 use Rattle.number_fixed.specs.BigEndian.{big_endian, fixed_at}
 use Rattle.common.specs.declared.refusal.Fault.{Fault}
-use Rattle.common.specs.declared.refusal.Fault.TheVariants.{PastEnd, OutOfRange, NotCarried, TooMany, Repeated, LeftOver}
+use Rattle.common.specs.declared.refusal.Fault.TheVariants.{PastEnd, OutOfRange, NotCarried, TooMany, Repeated}
 use Rattle.stats_contents.specs.Contents.{offset_of, with_entry, used, entry_type_at, offset_at, pairs_at, count_at, present, contents_at, nearer, end_of}
 use Rattle.stats_contents.specs.declared.contents.Contents.{Contents}
 

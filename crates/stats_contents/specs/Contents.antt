@@ -1,7 +1,7 @@
 -- The contents of Statistics: "Count (0 to 4, more is 8), then type and offset pairs; types 0 to 3 (else 7), each at most once. Offsets
 -- differ (else 9), and lie neither before the contents' end (5) nor past the file's (2). Then 0 and 3 must be present. Entries are
 -- read by place, each to the next larger offset or the end." 001 calls all of these signed. Assumes nothing.
-use Rattle.std.specs.Prelude.{ℕ, zero, suc, ◌+◌, ◌*◌, Bool, true, false, List, ltb, eqb}
+use Rattle.std.specs.Prelude.{ℕ, zero, suc, ◌+◌, ◌*◌, Bool, true, ltb, eqb}
 use Rattle.common.specs.Choose.{pick, bind}
 use Rattle.common.specs.Got.{Got, got, bad, on, Reader, ◌>>=◌, ret}
 use Rattle.number_fixed.specs.BigEndian.{fixed_at}

@@ -1,5 +1,5 @@
 -- The buffer of schema records: what it holds after one more is stored. Assumes nothing.
-use Rattle.std.proofs.Common.{◌≡◌, ℕ, zero, suc, ◌+◌, ◌-◌, ◌*◌, ◌^◌, ◌<◌, ◌≤◌, List, [], ◌∷◌, ◌++◌, length, get_or, sym, refl, ap, ◌∙◌, append-nil, add-zero, add_assoc, mul-zero, add-one, arith, length-append, get_or-append-add}
+use Rattle.std.proofs.Common.{◌≡◌, ℕ, zero, suc, ◌+◌, ◌-◌, ◌*◌, ◌^◌, ◌<◌, List, [], ◌∷◌, ◌++◌, length, get_or, sym, refl, ap, ◌∙◌, append-nil, add-zero, arith, length-append, get_or-append-add}
 use native.Mathlib.Decide.{dec_lt}
 use lib.ListN.{get_or-append}
 use Rattle.number_fixed.specs.BigEndian.{big_endian, bytes_of}
@@ -13,7 +13,7 @@ use Rattle.schema_column.specs.Columns.{column_at}
 use Rattle.schema_column.specs.declared.Column.{Column}
 use Rattle.stats_file.specs.Header.{head_of, place_of, tail_of, record_of, records_of}
 use Rattle.stats_file.specs.Buffer.{columns_from, Kept, Holds}
-use Rattle.stats_file.proofs.Records.{length_head, length_place, length_record, length_records, records_append}
+use Rattle.stats_file.proofs.Records.{length_place, length_record, records_append}
 
 -- ---- a record that stands is that of its column
 module _ (d : List ℕ) (end at n : ℕ) (c : Column) (h : Stands d end at n (record_of c)) where

@@ -1,5 +1,5 @@
 -- The loops over the columns of the header. Assumes nothing.
-use Rattle.std.proofs.Common.{◌≡◌, ℕ, zero, suc, ◌+◌, ◌-◌, ◌*◌, ◌^◌, ◌<◌, ◌≤◌, Bool, true, false, ltb, List, [], ◌∷◌, ◌++◌, length, get_or, sym, refl, ap, ◌∙◌, add-zero, arith, ltb-false, ltb-true, le-ltb, lt-ltb}
+use Rattle.std.proofs.Common.{◌≡◌, ℕ, suc, ◌+◌, ◌-◌, ◌*◌, ◌^◌, ◌<◌, ◌≤◌, Bool, true, false, ltb, List, [], ◌∷◌, ◌++◌, length, get_or, sym, refl, ap, ◌∙◌, add-zero, arith, ltb-false, le-ltb, lt-ltb}
 use Rattle.common.specs.Choose.{pick}
 use Rattle.common.specs.Got.{Got, got, bad, on, said_num}
 use Rattle.number_fixed.specs.BigEndian.{big_endian}
@@ -17,12 +17,11 @@ use Rattle.text.specs.Text.{same}
 use Rattle.schema_check.specs.Records.{role_at, name_at, name_len_at, most_of}
 use Rattle.schema_column.specs.Columns as schema
 use Rattle.schema_column.specs.declared.Column.{Column}
-use Rattle.stats_file.specs.Header.{count_at, is_named, name_at as nameOfAt, typed_at, named_at, column_at, columns_at, Group, group, group_at, record_of}
+use Rattle.stats_file.specs.Header.{count_at, is_named, name_at as nameOfAt, typed_at, named_at, column_at, columns_at, group, group_at, record_of}
 use Rattle.stats_file.specs.Buffer.{columns_from, Kept, Holds, place_after, count_in, Adds, Fills, FillsGroup}
 use Rattle.stats_file.specs.Said.{said_column}
 use Rattle.stats_file.specs.declared.columns.Found.{Found}
 use Rattle.stats_file.specs.declared.columns.Found.TheVariants.{Is, Refused}
-use Rattle.stats_file.proofs.Said.{on_column, on_column_bad}
 use Rattle.stats_file.proofs.Records.{length_record}
 use Rattle.stats_file.proofs.Buffers.{holds_more}
 

@@ -1,28 +1,26 @@
 -- The parts of the header one after the other, and the two entries. Assumes nothing.
-use Rattle.std.proofs.Common.{◌≡◌, ℕ, ◌+◌, ◌*◌, ◌<◌, ◌≤◌, Bool, true, false, List, [], ◌∷◌, length, sym, refl, ap, ◌∙◌, arith, w64, Fits, le-ltb, lt-ltb}
+use Rattle.std.proofs.Common.{◌≡◌, ℕ, ◌+◌, ◌*◌, ◌<◌, ◌≤◌, List, [], length, sym, refl, ap, ◌∙◌, arith, w64, Fits, le-ltb, lt-ltb}
 use Rattle.common.specs.Choose.{pick}
-use Rattle.common.specs.Got.{Got, got, bad, on, said_num}
+use Rattle.common.specs.Got.{Got, got, bad, said_num}
 use Rattle.common.specs.declared.refusal.Fault.{Fault}
 use Rattle.common.specs.declared.refusal.Fault.TheVariants.{LeftOver}
 use Rattle.common.specs.declared.number.Num.{Num}
 use Rattle.common.specs.declared.number.Num.TheVariants.{Number, Refused as num-refused}
 use Rattle.common.specs.declared.times.Bases.{Bases}
-use Rattle.common.proofs.Choose.{pick_yes, pick_no}
-use Rattle.common.proofs.Gives.{Gives, gives_on, gives_got, gives_bad, gives_pick, gives_bind, gives_is}
+use Rattle.common.proofs.Choose.{pick_yes}
+use Rattle.common.proofs.Gives.{gives_got, gives_bad, gives_is}
 use Rattle.common.proofs.RoundTrip.{Reads, reads_on, reads_got, reads_no, reads_then, bad_on}
 use Rattle.schema_check.specs.Records.{most_of}
 use Rattle.schema_column.specs.declared.Column.{Column}
 use Rattle.stats_file.specs.Bases.{bases_at}
-use Rattle.stats_file.specs.Header.{columns_at, Group, group_at, Groups, groups, sizes_of, groups_at, Header, header, header_at}
-use Rattle.stats_file.specs.Buffer.{columns_from, Kept, Holds, place_after, count_in, sizes_in, head_in, column_count, Fills, FillsGroup, FillsGroups, FillsHeader}
+use Rattle.stats_file.specs.Header.{columns_at, Group, group_at, Groups, sizes_of, groups_at, Header, header_at}
+use Rattle.stats_file.specs.Buffer.{columns_from, Kept, Holds, count_in, sizes_in, head_in, column_count, Fills, FillsGroup, FillsGroups, FillsHeader}
 use Rattle.stats_file.specs.Said.{said_times, said_grouped, said_headed}
 use Rattle.stats_file.specs.declared.bases.Times.{Times}
 use Rattle.stats_file.specs.declared.bases.Times.TheVariants.{Based, Refused as times-refused}
 use Rattle.stats_file.specs.declared.columns.Sizes.{Sizes}
 use Rattle.stats_file.specs.declared.columns.Grouped.{Grouped}
 use Rattle.stats_file.specs.declared.columns.Grouped.TheVariants.{Counts, Refused as grouped-refused}
-use Rattle.stats_file.specs.declared.header.Head.{Head}
-use Rattle.stats_file.specs.declared.header.Headed.{Headed}
 use Rattle.stats_file.specs.declared.header.Headed.TheVariants.{Header as IsHeader, Refused as headed-refused}
 use Rattle.stats_file.proofs.Buffers.{kept_none}
 use Rattle.stats_file.proofs.Loops.{placed, unplaced, group_count}

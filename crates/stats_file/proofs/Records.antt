@@ -1,6 +1,5 @@
 -- The records of columns: their lengths, and how they are stored. Assumes nothing.
-use Rattle.std.proofs.Common.{◌≡◌, ℕ, suc, ◌+◌, ◌*◌, ◌^◌, ◌<◌, ◌≤◌, List, [], ◌∷◌, ◌++◌, length, set, sym, refl, ap, ◌∙◌, append_assoc, arith, length-append, length-set, w64, Fits}
-use Rattle.number_fixed.specs.BigEndian.{bytes_of}
+use Rattle.std.proofs.Common.{◌≡◌, ℕ, ◌+◌, ◌*◌, ◌^◌, ◌<◌, ◌≤◌, List, [], ◌∷◌, ◌++◌, length, set, sym, refl, ◌∙◌, append_assoc, arith, length-append, length-set, w64, Fits}
 use Rattle.common.specs.Store.{Room, Puts, splice}
 use Rattle.number_fixed.proofs.BigEndian.{length_bytes_of}
 use Rattle.common.proofs.Splices.{splice_cons}

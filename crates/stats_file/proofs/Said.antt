@@ -1,5 +1,5 @@
 -- What the code's answers say, for `search`. Assumes nothing.
-use Rattle.std.proofs.Common.{◌≡◌, ℕ, sym, refl, ap, ◌∙◌}
+use Rattle.std.proofs.Common.{◌≡◌, ℕ}
 use Rattle.common.specs.Got.{Got, got, bad, on}
 use Rattle.common.specs.declared.refusal.Fault.{Fault}
 use Rattle.common.specs.declared.times.Bases.{Bases}

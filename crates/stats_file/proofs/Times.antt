@@ -1,6 +1,6 @@
 -- The sums of the base times. Assumes nothing.
-use Rattle.std.proofs.Common.{◌≡◌, ℕ, ◌+◌, ◌%◌, ◌^◌, sym, refl, ap, ◌∙◌, arith}
-use Rattle.common.specs.Got.{Got, got}
+use Rattle.std.proofs.Common.{◌≡◌, ℕ, ◌+◌, ◌%◌, ◌^◌, arith}
+use Rattle.common.specs.Got.{got}
 use Rattle.common.specs.Times.{biased}
 use Rattle.stats_file.specs.Bases.{local_of}
 

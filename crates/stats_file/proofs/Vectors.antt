@@ -1,5 +1,5 @@
 -- The examples of the decisions for the header, as one statement: T x is a Statistics whose entry 3 is x and begins at 30. Assumes nothing.
-use Rattle.std.proofs.Common.{◌≡◌, ℕ, Bool, true, false, List, [], ◌∷◌, ◌++◌, length, refl}
+use Rattle.std.proofs.Common.{◌≡◌, ℕ, List, [], ◌∷◌, length, refl}
 use Rattle.common.specs.Choose.{pick, bind}
 use Rattle.common.specs.Got.{Got, got, bad, on}
 use Rattle.number_fixed.specs.BigEndian.{big_endian, bytes_of}

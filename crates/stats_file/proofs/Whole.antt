@@ -1,5 +1,5 @@
 -- The two entries, the file, and the buffer that the caller lends. Assumes nothing.
-use Rattle.std.proofs.Common.{◌≡◌, ℕ, ◌+◌, ◌*◌, ◌<◌, ◌≤◌, Bool, true, false, ltb, List, length, sym, refl, ap, ◌∙◌, arith, le-ltb, lt-ltb}
+use Rattle.std.proofs.Common.{◌≡◌, ℕ, ◌+◌, ◌*◌, ◌<◌, ◌≤◌, true, false, ltb, List, length, sym, refl, ap, ◌∙◌, arith, le-ltb, lt-ltb}
 use Rattle.common.specs.Got.{Got, got, bad, on}
 use Rattle.common.specs.Refusals.{Outcome, taken, refused}
 use Rattle.common.specs.Store.{Room, Puts, part, splice}
@@ -9,7 +9,6 @@ use Rattle.common.specs.declared.refusal.Slice.TheVariants.{Statistics, Output}
 use Rattle.common.specs.declared.times.Bases.{Bases}
 use Rattle.common.proofs.Choose.{pick_yes, pick_no}
 use Rattle.common.proofs.Gives.{gives_got, gives_bad, gives_is}
-use Rattle.common.proofs.Puts.{length_part}
 use Rattle.common.proofs.RoundTrip.{Reads as IsRead, reads_on, reads_got, reads_then, bad_on}
 use Rattle.common.proofs.Stands.{stands_part}
 use Rattle.stats_contents.specs.Contents.{contents_at, end_of, said_listed}

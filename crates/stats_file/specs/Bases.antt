@@ -2,7 +2,7 @@
 -- 1442880000 plus the varint, modulo 2^32 and signed, 0 to 2147483647; TTL the varint, at most 2147483647." Assumes nothing.
 use Rattle.std.specs.Prelude.{ℕ, ◌+◌, ◌%◌, ◌^◌, nat_lt}
 use Rattle.common.specs.Choose.{pick, bind}
-use Rattle.common.specs.Got.{Got, got, bad, on, Reader, ◌>>=◌, ret}
+use Rattle.common.specs.Got.{got, bad, on, Reader, ◌>>=◌, ret}
 use Rattle.common.specs.Times.{biased}
 use Rattle.number_varint.specs.Varints.{varint_at}
 use Rattle.common.specs.declared.refusal.Fault.TheVariants.{OutOfRange}

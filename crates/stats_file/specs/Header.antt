@@ -2,7 +2,7 @@
 -- name twice", and the schema records that it gives. Assumes nothing.
 use Rattle.std.specs.Prelude.{ℕ, zero, suc, ◌+◌, ◌-◌, Bool, true, false, List, [], ◌∷◌, ◌++◌, nat_lt}
 use Rattle.common.specs.Choose.{pick, bind}
-use Rattle.common.specs.Got.{Got, got, bad, on, Reader, ◌>>=◌, ret, when, filled}
+use Rattle.common.specs.Got.{got, bad, on, Reader, ◌>>=◌, ret, when, filled}
 use Rattle.number_fixed.specs.BigEndian.{bytes_of}
 use Rattle.common.specs.Store.{shown}
 use Rattle.number_varint.specs.Varints.{varint_at}

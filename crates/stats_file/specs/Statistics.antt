@@ -1,17 +1,15 @@
 -- Statistics: the contents, entry 0 and entry 3, and what reading it answers and fills. Assumes nothing.
-use Rattle.std.specs.Prelude.{◌≡◌, ℕ, ◌+◌, ◌*◌, List, length, nat_lt}
+use Rattle.std.specs.Prelude.{◌≡◌, ℕ, List, length, nat_lt}
 use Rattle.common.specs.Choose.{pick}
 use Rattle.common.specs.Got.{Got, got, bad, on}
 use Rattle.common.specs.Refusals.{Outcome, taken, refused, said_refusal}
 use Rattle.common.specs.Store.{splice}
 use Rattle.common.specs.declared.refusal.Fault.TheVariants.{OverLimit, NoRoom}
-use Rattle.common.specs.declared.refusal.Slice.{Slice}
 use Rattle.common.specs.declared.refusal.Slice.TheVariants.{Statistics, Output}
 use Rattle.stats_contents.specs.Contents.{contents_at, end_of}
 use Rattle.stats_validation.specs.Validation.{validation_at}
 use Rattle.stats_contents.specs.declared.contents.Contents.{Contents}
 use Rattle.stats_validation.specs.declared.Validation.{Validation}
-use Rattle.schema_column.specs.declared.Column.{Column}
 use Rattle.stats_file.specs.Header.{Header, header_at, records_of}
 use Rattle.stats_file.specs.declared.Table.{Table}
 use Rattle.stats_file.specs.Buffer.{Holds, column_count}

@@ -1,6 +1,6 @@
 -- Entry 0 of Statistics: "16-bit length, name, then the false-positive chance, a double that compares between 0 and 1, both taken";
 -- "filled exactly". The name is not looked at. Assumes nothing.
-use Rattle.std.specs.Prelude.{ℕ, ◌+◌, ◌-◌, List, ltb, Float}
+use Rattle.std.specs.Prelude.{ℕ, ◌+◌, ◌-◌, ltb, Float}
 use Rattle.std.specs.Float.Ieee as Ieee
 use Rattle.std.specs.Float.{binary64}
 use Rattle.common.specs.Choose.{pick, bind}

@@ -2,7 +2,7 @@
 -- "org.apache.cassandra.db.marshal."; parameters in balanced parentheses, exactly where 001 says Yes, nothing after. Reversed holds
 -- one type string, not a Reversed. Inside others only balance, depth and the characters are checked. The first fault from the left
 -- is 7, or 8 for depth, at the string's first byte." Assumes nothing.
-use Rattle.std.specs.Prelude.{ℕ, zero, suc, ◌+◌, ◌-◌, Bool, true, false, List, [], ◌∷◌, ltb, eqb}
+use Rattle.std.specs.Prelude.{ℕ, zero, suc, ◌+◌, ◌-◌, Bool, true, List, [], ◌∷◌, ltb, eqb}
 use Rattle.common.specs.Choose.{pick, bind}
 use Rattle.common.specs.Got.{Got, got, bad, on, Reader}
 use Rattle.common.specs.Store.{part}

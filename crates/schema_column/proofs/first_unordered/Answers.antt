@@ -1,4 +1,3 @@
-use Prim.Native.Nat.{◌-◌}
 use Rattle.schema_column.proofs.Loops.{ordered}
 use borrow.Author.Rules.{rules}
 use Rattle.schema_column.proofs.first_unordered.Goals as goal

@@ -1,4 +1,3 @@
-use Prim.Native.Nat.{◌-◌}
 use Rattle.schema_column.proofs.Loops.{alike}
 use borrow.Author.Rules.{rules}
 use Rattle.schema_column.proofs.is_same.Goals as goal

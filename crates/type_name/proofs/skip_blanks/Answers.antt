@@ -1,4 +1,3 @@
-use Prim.Native.Nat.{◌-◌}
 use Rattle.type_name.proofs.Scans.{passing}
 use borrow.Author.Rules.{rules}
 use Rattle.type_name.proofs.skip_blanks.Goals as goal

@@ -1,6 +1,5 @@
 use Rattle.call_check.proofs.Schemas.{tables}
 use Rattle.list_call.proofs.PutContents.{filing}
-use Prim.Native.Nat.{◌-◌}
 use borrow.Author.Rules.{rules}
 use Rattle.list_call.proofs.fills.put_contents.Goals as goal
 

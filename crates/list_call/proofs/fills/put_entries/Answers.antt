@@ -1,6 +1,5 @@
 use Rattle.call_check.proofs.Schemas.{tables}
 use Rattle.list_call.proofs.PutEntries.{storing, storing_same, storing_end_same}
-use Prim.Native.Nat.{◌-◌}
 use mathlib.Core.Path.{refl}
 use borrow.Author.Rules.{rules}
 use Rattle.list_call.proofs.fills.put_entries.Goals as goal

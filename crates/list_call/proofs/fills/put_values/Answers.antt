@@ -1,5 +1,4 @@
 use Rattle.list_call.proofs.PutValues.{valuing, valuing_same}
-use Prim.Native.Nat.{◌-◌}
 use borrow.Author.Rules.{rules}
 use Rattle.list_call.proofs.fills.put_values.Goals as goal
 

@@ -1,6 +1,5 @@
 use Rattle.call_check.proofs.Schemas.{tables}
 use Rattle.list_count.proofs.Partitions.{passing}
-use Prim.Native.Nat.{◌-◌}
 use borrow.Author.Rules.{rules}
 use Rattle.list_count.proofs.counts.count_contents.Goals as goal
 

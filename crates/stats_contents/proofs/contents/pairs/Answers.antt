@@ -1,4 +1,3 @@
-use Prim.Native.Nat.{◌-◌}
 use Rattle.stats_contents.proofs.Pairs.{pairing}
 use borrow.Author.Rules.{rules}
 use Rattle.stats_contents.proofs.contents.pairs.Goals as goal

@@ -1,4 +1,4 @@
-use Rattle.std.proofs.Common.{◌-◌, rules}
+use Rattle.std.proofs.Common.{rules}
 use Rattle.stats_file.proofs.Loops.{seeking}
 use Rattle.stats_file.proofs.columns.is_named.Goals as goal
 

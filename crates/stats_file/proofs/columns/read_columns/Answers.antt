@@ -1,4 +1,4 @@
-use Rattle.std.proofs.Common.{◌-◌, rules}
+use Rattle.std.proofs.Common.{rules}
 use Rattle.stats_file.proofs.Loops.{filling}
 use Rattle.stats_file.proofs.columns.read_columns.Goals as goal
 
