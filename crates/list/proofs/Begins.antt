@@ -1,19 +1,16 @@
 -- What is known before the first line: the code's answers. Assumes nothing.
-use mathlib.Core.Path.{◌≡◌, refl, sym, ap, ◌∙◌, subst}
-use mathlib.Core.List.{List, []}
-use Prim.Native.Nat.{ℕ, ◌+◌, ◌*◌, ◌≤◌, ◌<◌}
+use mathlib.Core.Path.{◌≡◌, refl, sym, ap, ◌∙◌}
+use mathlib.Core.List.{List}
+use Prim.Native.Nat.{ℕ, ◌*◌, ◌≤◌}
 use native.Mathlib.Omega.{arith}
 use lib.ListN.{length, take}
-use lib.Seq.{length-take-le}
 use Rattle.common.specs.Refusals.{Outcome, taken, refused, said_refusal}
 use Rattle.common.specs.declared.refusal.Fault.{Fault}
 use Rattle.common.specs.declared.refusal.Refusal.{Refusal}
 use Rattle.common.specs.declared.refusal.Slice.{Slice}
 use Rattle.common.specs.declared.times.Bases.{Bases}
-use Rattle.common.proofs.Splices.{length_splice}
 use Rattle.stats_file.specs.Buffer.{column_count}
-use Rattle.stats_file.specs.Header.{records_of}
-use Rattle.stats_file.specs.Statistics.{File, Reads}
+use Rattle.stats_file.specs.Statistics.{Reads}
 use Rattle.stats_file.specs.declared.Table.{Table}
 use Rattle.stats_file.specs.declared.Answer.{Answer}
 use Rattle.stats_file.specs.declared.Answer.TheVariants.{Read, Refused as answer-refused}
@@ -23,10 +20,9 @@ use Rattle.list_call.specs.Lists.{list_at, counted, said_listed}
 use Rattle.list_call.specs.declared.lists.Listed.{Listed}
 use Rattle.list_call.specs.declared.lists.Listed.TheVariants.{Records, Refused as listed-refused}
 use Rattle.list.specs.Reports.{Known, counted_at, begun_at, begun_of, Fit}
-use Rattle.print_line.specs.Reports.{statistics_at}
 use Rattle.list.specs.declared.report.Begun.{Begun}
 use Rattle.list.specs.declared.report.Begun.TheVariants.{Listing, Refused}
-use Rattle.list.proofs.Tables.{Whole, read_whole, read_refused}
+use Rattle.list.proofs.Tables.{read_whole, read_refused}
 
 no : {A C : Type 0} {a : A} {f : Fault} {z : Slice} {p : ℕ} → taken a ≡ refused f z p → C
 no e = let z : ◌≡◌ {A = ℕ} 0 1 = cc in absurd (omega arith)

@@ -1,5 +1,5 @@
 -- Paths, and parts of a buffer from its start. Assumes nothing.
-use mathlib.Core.Path.{◌≡◌, refl, sym, ap, ◌∙◌}
+use mathlib.Core.Path.{◌≡◌, sym}
 use mathlib.Core.List.{List, [], ◌∷◌, ◌++◌}
 use Prim.Native.Nat.{ℕ, ◌+◌, ◌≤◌}
 use native.Mathlib.Omega.{arith}
@@ -8,7 +8,7 @@ use lib.Seq.{take-length, length-take-le}
 use Rattle.common.specs.Store.{part, Room, Puts}
 use Rattle.list.specs.Files.{name_of, path_of, Loads}
 use Rattle.list.specs.declared.files.Loaded.{Loaded}
-use Rattle.list.specs.declared.files.Loaded.TheVariants.{Bytes, Not}
+use Rattle.list.specs.declared.files.Loaded.TheVariants.{Bytes}
 
 part_all : (w : List ℕ) → part w 0 (length w) ≡ w
 unfolding part

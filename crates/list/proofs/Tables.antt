@@ -1,22 +1,22 @@
 -- What reading Statistics gives: the base times, and the schema records at the start of the buffer. Assumes nothing.
-use mathlib.Core.Path.{◌≡◌, refl, sym, ap, ◌∙◌, subst}
+use mathlib.Core.Path.{◌≡◌, refl, ap}
 use mathlib.Core.Bool.{Bool, true, false}
 use mathlib.Core.List.{List, [], ◌∷◌, ◌++◌}
-use Prim.Native.Nat.{ℕ, zero, suc, ◌+◌, ◌*◌, ◌≤◌, ◌<◌}
+use Prim.Native.Nat.{ℕ, zero, suc, ◌+◌, ◌*◌, ◌≤◌}
 use native.Mathlib.Omega.{arith}
 use borrow.Author.Tests.{ltb-false, le-ltb}
 use lib.Dec.{ltb}
 use lib.ListN.{length, take, drop, length-append}
 use lib.Seq.{take_at}
 use Rattle.common.specs.Choose.{pick, bind}
-use Rattle.common.specs.Got.{Got, got, bad, on, within}
+use Rattle.common.specs.Got.{Got, got, bad, within}
 use Rattle.common.specs.Refusals.{Outcome, taken, refused, said_refusal}
 use Rattle.common.specs.Store.{splice}
 use Rattle.common.specs.declared.refusal.Fault.{Fault}
 use Rattle.common.specs.declared.refusal.Slice.{Slice}
-use Rattle.common.specs.declared.refusal.Fault.TheVariants.{OverLimit, NoRoom}
+use Rattle.common.specs.declared.refusal.Fault.TheVariants.{OverLimit}
 use Rattle.common.specs.declared.refusal.Refusal.{Refusal}
-use Rattle.common.specs.declared.refusal.Slice.TheVariants.{Statistics, Output}
+use Rattle.common.specs.declared.refusal.Slice.TheVariants.{Statistics}
 use Rattle.common.proofs.Gives.{Gives, gives_got, gives_bad, gives_on, gives_pick, gives_is}
 use Rattle.stats_contents.specs.declared.contents.Contents.{Contents}
 use Rattle.schema_column.specs.declared.Column.{Column}

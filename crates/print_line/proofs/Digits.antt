@@ -1,14 +1,13 @@
 -- The digits of a number: how many there are at most, and that those of n are those of n / 10 and one more. Assumes nothing.
 use mathlib.Core.Path.{◌≡◌, refl, sym, ap, ◌∙◌}
 use mathlib.Core.List.{List, [], ◌∷◌, ◌++◌}
-use Prim.Native.Nat.{ℕ, zero, suc, ◌+◌, ◌-◌, ◌*◌, ◌/◌, ◌%◌, ◌^◌, ◌≤◌, ◌<◌}
+use Prim.Native.Nat.{ℕ, zero, suc, ◌+◌, ◌/◌, ◌%◌, ◌^◌, ◌≤◌, ◌<◌}
 use native.Mathlib.Omega.{arith}
-use borrow.Author.Tests.{lt-ltb, le-ltb, ltb-false}
+use borrow.Author.Tests.{lt-ltb, le-ltb}
 use lib.Dec.{ltb}
-use lib.ListN.{length, length-append}
 use Rattle.common.specs.Choose.{pick}
 use Rattle.common.proofs.Choose.{pick_ind, pick_yes, pick_no}
-use Rattle.print_line.specs.Numbers.{digits, decimal, signed}
+use Rattle.print_line.specs.Numbers.{digits, decimal}
 
 -- more digits than there are make no difference
 digits_same : (k n : ℕ) → n < 10 ^ suc k → digits (suc k) n ≡ digits (suc (suc k)) n

@@ -1,15 +1,14 @@
 -- Bytes, digits and texts that are stored: what `search` needs for the code's stores. Assumes nothing.
-use mathlib.Core.Path.{◌≡◌, refl, sym, ap, ◌∙◌}
+use mathlib.Core.Path.{◌≡◌, refl, sym, ◌∙◌}
 use mathlib.Core.List.{List, [], ◌∷◌, ◌++◌}
-use Prim.Native.Nat.{ℕ, suc, ◌+◌, ◌-◌, ◌/◌, ◌%◌, ◌^◌, ◌≤◌, ◌<◌}
+use Prim.Native.Nat.{ℕ, ◌+◌, ◌-◌, ◌/◌, ◌%◌, ◌^◌, ◌≤◌, ◌<◌}
 use native.Mathlib.Omega.{arith}
 use borrow.Author.Tests.{lt-ltb, le-ltb}
-use lib.ListN.{length, set, take, drop, length-append}
+use lib.ListN.{length, set}
 use lib.Seq.{take-length}
 use mir.Syntax.{w64}
 use mir.Val.{Fits}
-use Rattle.common.specs.Choose.{pick}
-use Rattle.common.specs.Store.{splice, part, Room, Puts}
+use Rattle.common.specs.Store.{part, Room, Puts}
 use Rattle.common.specs.declared.refusal.Slice.{Slice}
 use Rattle.common.proofs.Choose.{pick_yes, pick_no}
 use Rattle.common.proofs.Puts.{room_left, room_right, puts_then, puts_none}

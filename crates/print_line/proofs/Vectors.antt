@@ -1,9 +1,9 @@
 -- Document 01's output, byte for byte; numbers at their ends; refusals. Assumes nothing.
 use mathlib.Core.Path.{◌≡◌, refl}
 use mathlib.Core.List.{List, [], ◌∷◌, ◌++◌}
-use Prim.Native.Nat.{ℕ, ◌-◌, ◌+◌, ◌^◌}
+use Prim.Native.Nat.{ℕ, ◌-◌, ◌^◌}
 use Rattle.text.specs.Text.{text}
-use Rattle.common.specs.Choose.{pick, bind}
+use Rattle.common.specs.Choose.{pick}
 use Rattle.common.specs.declared.refusal.Fault.TheVariants.{PastEnd, LeftOver, NoRoom}
 use Rattle.common.specs.declared.refusal.Slice.TheVariants.{Statistics, Data, Output}
 use Rattle.data_items.specs.Items.{item, zeroed}

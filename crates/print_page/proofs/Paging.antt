@@ -1,14 +1,10 @@
 -- The loop that fills a page, and the page's answer. Assumes nothing.
 use mathlib.Core.Path.{◌≡◌, refl, sym, ap, ◌∙◌}
-use mathlib.Core.List.{List, [], ◌∷◌, ◌++◌, append_assoc, append-nil}
-use mathlib.Core.Option.{Option, none, some}
-use Prim.Native.Nat.{ℕ, zero, suc, ◌+◌, ◌-◌, ◌*◌, ◌^◌, ◌≤◌, ◌<◌}
+use mathlib.Core.List.{List, [], ◌++◌, append_assoc, append-nil}
+use Prim.Native.Nat.{ℕ, suc, ◌+◌, ◌-◌, ◌*◌, ◌≤◌, ◌<◌}
 use native.Mathlib.Omega.{arith}
 use lib.ListN.{length, length-append}
-use mir.Syntax.{w64}
-use mir.Val.{Fits}
-use Rattle.common.specs.Refusals.{Outcome, taken, refused}
-use Rattle.common.specs.Store.{splice, Room, Puts}
+use Rattle.common.specs.Store.{splice, Puts}
 use Rattle.common.specs.declared.refusal.Refusal.{Refusal}
 use Rattle.common.specs.declared.times.Bases.{Bases}
 use Rattle.common.proofs.Splices.{splice_none, splice_splice, length_splice}
@@ -16,7 +12,7 @@ use Rattle.schema_check.specs.Records.{said_checked}
 use Rattle.schema_check.specs.declared.records.Counts.{Counts}
 use Rattle.schema_check.specs.declared.records.Checked.{Checked}
 use Rattle.schema_check.specs.declared.records.Checked.TheVariants.{Counted, Refused as Checked-Refused}
-use Rattle.data_walk.specs.Steps.{Answer, step_in, said_step}
+use Rattle.data_walk.specs.Steps.{step_in, said_step}
 use Rattle.call_check.specs.Tables.{table_at}
 use Rattle.data_items.specs.declared.Item.{Item}
 use Rattle.data_walk.specs.declared.cursors.Cursor.{Cursor}

@@ -1,21 +1,21 @@
 -- All pages of a walk, one after the other, are the lines of the items that it lists. Assumes nothing.
 use mathlib.Core.Path.{◌≡◌, refl, sym, ap, ◌∙◌, subst}
-use mathlib.Core.List.{List, [], ◌∷◌, ◌++◌, append_assoc}
-use mathlib.Core.Option.{Option, none, some}
+use mathlib.Core.List.{List, ◌∷◌, ◌++◌, append_assoc}
+use mathlib.Core.Option.{none, some}
 use Prim.Native.Nat.{ℕ, zero, suc, ◌+◌, ◌≤◌, ◌<◌}
 use native.Mathlib.Omega.{arith}
 use lib.ListN.{length}
 use Rattle.common.specs.Refusals.{Outcome, taken, refused}
 use Rattle.common.specs.declared.times.Bases.{Bases}
 use Rattle.schema_check.specs.declared.records.Counts.{Counts}
-use Rattle.data_walk.specs.Steps.{Answer, Handed, step_in}
+use Rattle.data_walk.specs.Steps.{Answer, step_in}
 use Rattle.call_check.specs.Tables.{Table, table_at}
 use Rattle.data_walk.specs.Walks.{remaining, add, follow, walk_from}
 use Rattle.data_items.specs.declared.Item.{Item}
 use Rattle.data_walk.specs.declared.cursors.Cursor.{Cursor}
 use Rattle.data_walk.proofs.Moves.{step_moves, walk_unfolds}
 use Rattle.call_check.proofs.Schemas.{table_taken}
-use Rattle.print_line.specs.Lines.{line_of, lines_of, refusal_line}
+use Rattle.print_line.specs.Lines.{line_of, lines_of}
 use Rattle.print_page.specs.Pages.{Page, more, last, before, onward, page_in, in_table, page_at, joined, printed}
 
 not_more : {C : Type 0} {w v : List ℕ} {y : Cursor} → last w ≡ more v y → C

@@ -1,6 +1,6 @@
 -- The text of a walk through Data, a page at a time: a line for each item, and a refusal's line where the walk ends so. Assumes nothing.
 use Rattle.std.specs.Prelude.{ℕ, zero, suc, ◌≡◌, List, [], ◌++◌, length}
-use Rattle.std.proofs.Math.Option.{Option, none, some}
+use Rattle.std.proofs.Math.Option.{none, some}
 use Rattle.common.specs.Refusals.{Outcome, taken, refused}
 use Rattle.common.specs.Store.{splice}
 use Rattle.common.specs.declared.times.Bases.{Bases}

@@ -1,8 +1,8 @@
 -- The laws of the call for Scylla.db. Assumes nothing.
-use mathlib.Core.Path.{◌≡◌, refl, sym, ap, ◌∙◌}
+use mathlib.Core.Path.{◌≡◌}
 use mathlib.Core.List.{List, [], ◌∷◌}
 use Prim.Native.Nat.{ℕ}
-use Rattle.common.specs.Refusals.{fault_number, slice_number, Outcome, taken, refused}
+use Rattle.common.specs.Refusals.{fault_number, slice_number}
 use Rattle.common.specs.declared.refusal.Refusal.{Refusal}
 use Rattle.scylla_file.specs.Components.{said_scylla, scylla_of}
 use Rattle.scylla_file.specs.declared.component.Components.{Components}

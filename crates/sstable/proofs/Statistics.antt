@@ -1,20 +1,18 @@
 -- The laws of the calls for Statistics.db and schema tables. Assumes nothing.
-use mathlib.Core.Path.{◌≡◌, refl, sym, ap, ◌∙◌}
+use mathlib.Core.Path.{◌≡◌, refl, ◌∙◌}
 use mathlib.Core.List.{List, [], ◌∷◌}
 use Prim.Native.Nat.{ℕ}
-use lib.ListN.{length}
-use Rattle.common.specs.Refusals.{fault_number, slice_number, Outcome, taken, refused}
+use Rattle.common.specs.Refusals.{fault_number, slice_number}
 use Rattle.common.specs.declared.refusal.Refusal.{Refusal}
 use Rattle.common.specs.Times.{biased}
 use Rattle.schema_check.specs.Records.{schema_of, said_checked}
 use Rattle.schema_check.specs.declared.records.Counts.{Counts}
 use Rattle.schema_check.specs.declared.records.Checked.{Checked}
 use Rattle.schema_check.specs.declared.records.Checked.TheVariants.{Counted, Refused as Checked-Refused}
-use Rattle.stats_file.specs.Statistics.{statistics_of, said_answer, Reads}
+use Rattle.stats_file.specs.Statistics.{said_answer, Reads}
 use Rattle.stats_file.specs.declared.Table.{Table}
 use Rattle.stats_file.specs.declared.Answer.{Answer}
 use Rattle.stats_file.specs.declared.Answer.TheVariants.{Read, Refused}
-use Rattle.sstable_words.specs.Words.{words, mapped}
 use Rattle.sstable.specs.Statistics.{table_words, statistics_words, StatisticsRead, count_words, schema_words, checked_words}
 use Rattle.sstable_words.proofs.Words.{words_taken, words_refused, mapped_taken, mapped_refused}
 

@@ -1,22 +1,20 @@
 -- The laws of the varint calls. Assumes nothing.
-use mathlib.Core.Path.{◌≡◌, refl, sym, ap, ◌∙◌}
+use mathlib.Core.Path.{◌≡◌, refl, ap}
 use mathlib.Core.List.{List, [], ◌∷◌}
-use Prim.Native.Nat.{ℕ, ◌+◌, ◌≤◌, ◌<◌}
+use Prim.Native.Nat.{ℕ, ◌≤◌, ◌<◌}
 use native.Mathlib.Omega.{arith}
 use borrow.Author.Tests.{lt-ltb, le-ltb}
 use lib.ListN.{length}
-use Rattle.common.specs.Got.{Got, got, bad, said_num}
-use Rattle.common.specs.Refusals.{fault_number, slice_number, Outcome, taken, refused}
+use Rattle.common.specs.Got.{said_num}
+use Rattle.common.specs.Refusals.{fault_number, taken, refused}
 use Rattle.common.specs.Store.{Room, Puts}
 use Rattle.number_varint.specs.Varints.{shortest, varint_at}
 use Rattle.common.specs.declared.refusal.Fault.{Fault}
-use Rattle.common.specs.declared.refusal.Slice.{Slice}
 use Rattle.common.specs.declared.refusal.Fault.TheVariants.{OverLimit, NoRoom}
 use Rattle.common.specs.declared.refusal.Slice.TheVariants.{Data, Output}
 use Rattle.common.specs.declared.number.Num.{Num}
 use Rattle.common.specs.declared.number.Num.TheVariants.{Number, Refused}
 use Rattle.common.proofs.Choose.{pick_yes, pick_no}
-use Rattle.sstable_words.specs.Words.{words}
 use Rattle.sstable.specs.Varints.{number_in, varint_read, varint_put, varint_stored, VarintPut}
 use Rattle.sstable_words.proofs.Words.{words_taken, words_refused}
 

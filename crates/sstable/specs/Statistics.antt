@@ -1,5 +1,5 @@
 -- The calls of the C interface for Statistics.db and schema tables. Assumes nothing.
-use Rattle.std.specs.Prelude.{ℕ, ◌≡◌, List, [], ◌∷◌, length}
+use Rattle.std.specs.Prelude.{ℕ, ◌≡◌, List, [], ◌∷◌}
 use Rattle.common.specs.Times.{biased}
 use Rattle.schema_check.specs.Records.{schema_of, said_checked}
 use Rattle.schema_check.specs.declared.records.Counts.{Counts}

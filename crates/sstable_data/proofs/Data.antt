@@ -1,13 +1,12 @@
 -- The laws of the calls for Data. Assumes nothing.
 use mathlib.Core.Path.{◌≡◌, refl, sym, ap, ◌∙◌}
 use mathlib.Core.List.{List, [], ◌∷◌}
-use mathlib.Core.Option.{none, some}
 use Prim.Native.Nat.{ℕ, ◌-◌, ◌<◌}
 use native.Mathlib.Omega.{arith}
 use borrow.Author.Tests.{lt-ltb, eq-eqb, ne_eqb, ltb-false}
 use lib.ListN.{length, get_or}
 use Rattle.common.specs.Choose.{pick, bind}
-use Rattle.common.specs.Refusals.{fault_number, slice_number, Outcome, taken, refused, said_refusal}
+use Rattle.common.specs.Refusals.{fault_number, slice_number, said_refusal}
 use Rattle.common.specs.Store.{part, shown}
 use Rattle.common.specs.Times.{biased}
 use Rattle.common.proofs.Choose.{pick_yes, pick_no, pick_ind, bind_self}
@@ -16,7 +15,7 @@ use Rattle.data_items.specs.Items.{value_of}
 use Rattle.common.specs.declared.refusal.Refusal.{Refusal}
 use Rattle.common.specs.declared.times.Bases.{Bases}
 use Rattle.data_walk.specs.Cursors.{at_items}
-use Rattle.data_walk.specs.Steps.{Answer, bad_state, partition_answer, step_in, step_at, said_step}
+use Rattle.data_walk.specs.Steps.{bad_state, partition_answer, step_in, step_at, said_step}
 use Rattle.call_check.specs.Tables.{after, table_at}
 use Rattle.data_walk.specs.Walks.{start}
 use Rattle.data_items.specs.declared.Item.{Item}

@@ -1,6 +1,6 @@
 -- The laws of an answer's words. Assumes nothing.
-use mathlib.Core.Path.{◌≡◌, refl, sym, ap, ◌∙◌}
-use mathlib.Core.List.{List, [], ◌∷◌}
+use mathlib.Core.Path.{◌≡◌, refl}
+use mathlib.Core.List.{List, ◌∷◌}
 use Prim.Native.Nat.{ℕ}
 use Rattle.common.specs.Refusals.{fault_number, slice_number, Outcome, taken, refused}
 use Rattle.common.specs.declared.refusal.Fault.{Fault}

@@ -1,5 +1,5 @@
 -- The words of an answer of the C interface: number (0 where the call was taken), slice, place, and then what the call gives. Assumes nothing.
-use Rattle.std.specs.Prelude.{ℕ, List, ◌∷◌, ◌++◌}
+use Rattle.std.specs.Prelude.{ℕ, List, ◌∷◌}
 use Rattle.common.specs.Refusals.{fault_number, slice_number, Outcome, taken, refused}
 
 -- zs are the zeros that stand behind a refusal

@@ -2,7 +2,6 @@
 use mathlib.Core.Path.{◌≡◌, refl, subst, ap, ◌∙◌}
 use mathlib.Core.Bool.{Bool, true, false}
 use mathlib.Core.List.{List, [], ◌∷◌}
-use mathlib.Core.Option.{none}
 use Prim.Native.Nat.{ℕ, zero, suc, ◌+◌, ◌-◌, ◌%◌, ◌^◌, ◌≤◌, ◌<◌}
 use native.Mathlib.Omega.{arith}
 use borrow.Author.Tests.{ltb-false, eqb-false, eq-eqb}
@@ -18,7 +17,6 @@ use Rattle.data_field.specs.Fields.{deletion, live}
 use Rattle.data_field.specs.declared.fields.Deletion.{Deletion}
 use Rattle.data_field.proofs.Ranges.{TimestampIn, LocalIn, DeletionIn, deletion_none}
 use Rattle.data_cell.proofs.Gives.{TimesIn}
-use Rattle.data_row.specs.Bodies.{times}
 use Rattle.data_turns.specs.Turns.{may_stand}
 use Rattle.data_turns.specs.Turns.{bad_kind, is_start, is_boundary, out_of_turn}
 use Rattle.data_turns.specs.Turns.{same_deletion}

@@ -19,7 +19,7 @@ use Rattle.data_items.specs.Items.{item}
 use Rattle.data_items.specs.declared.Item.{Item}
 use Rattle.write_form.specs.Views.{show_cell}
 use Rattle.write_form.proofs.Fields.{shown_none}
-use Rattle.write_accept.specs.Fields.{item_of, stray_bytes, has_time, has_expiry, has_local, has_mark, has_second, has_column, stray, stray_first, stray_last, stray_numbers}
+use Rattle.write_accept.specs.Fields.{item_of, stray_bytes, has_time, has_expiry, has_local, has_mark, has_second, has_column, stray_first, stray_last, stray_numbers}
 use Rattle.write_accept.specs.Records.{ranges_at, record_at}
 use Rattle.write_accept.specs.Tests.{unlike, bad_place, bad_nowhere, bad_key, bad_width, bad_value, bad_partition_flags, bad_value_flags, bad_cell_flags, bad_partition, bad_row, bad_static, bad_first, bad_marker, bad_clustering, bad_cell_place, bad_cell, bad_end}
 use Rattle.write_accept.specs.Entries.{cell_of, times_of, deletion_of, second_of}

@@ -1,21 +1,20 @@
 -- Clustering values in the writer's form are read back. Assumes nothing.
-use mathlib.Core.Path.{◌≡◌, refl, sym, ap, ◌∙◌, subst}
+use mathlib.Core.Path.{◌≡◌, refl, ap, ◌∙◌}
 use mathlib.Core.Bool.{Bool, true, false}
-use mathlib.Core.List.{List, [], ◌∷◌, ◌++◌}
-use Prim.Native.Nat.{ℕ, zero, suc, ◌+◌, ◌-◌, ◌*◌, ◌/◌, ◌%◌, ◌^◌, ◌≤◌, ◌<◌}
+use mathlib.Core.List.{List, [], ◌∷◌}
+use Prim.Native.Nat.{ℕ, suc, ◌+◌, ◌*◌, ◌/◌, ◌%◌, ◌^◌, ◌≤◌, ◌<◌}
 use native.Mathlib.Nat.{pow-succ', pow-le-pow_right, lt_of_lt_of_le}
 use native.Mathlib.Omega.{arith}
-use borrow.Author.Tests.{le-ltb, ne_eqb, eqb-true, eqb-false}
-use lib.Dec.{ltb, eqb, lit<}
+use borrow.Author.Tests.{ne_eqb, eqb-true}
+use lib.Dec.{eqb, lit<}
 use lib.ListN.{length}
 use Rattle.common.specs.Choose.{pick}
-use Rattle.common.specs.Got.{Got, got, bad, on}
+use Rattle.common.specs.Got.{Got}
 use Rattle.number_varint.specs.Varints.{shortest}
 use Rattle.common.proofs.Choose.{pick_ind}
 use Rattle.common.proofs.RoundTrip.{Reads, reads_got, reads_on, reads_at, reads_yes, reads_no, reads_to}
 use Rattle.common.proofs.Stands.{Stands, stands_left, stands_right}
 use Rattle.number_varint.proofs.Varints.{varint_back}
-use Rattle.data_field.specs.declared.fields.Span.{Span}
 use Rattle.data_clustering.specs.Prefixes.{bad_header, header_at, clustering_at, values_at, skipped, prefix_at}
 use Rattle.write_form.specs.Views.{show_value, show_values}
 use Rattle.write_form.specs.Cells.{field_bytes}

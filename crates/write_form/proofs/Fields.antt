@@ -1,23 +1,21 @@
 -- Numbers and values in the writer's form are read back. Assumes nothing.
-use mathlib.Core.Path.{◌≡◌, refl, sym, ap, ◌∙◌, subst}
+use mathlib.Core.Path.{◌≡◌, refl, sym, ap}
 use mathlib.Core.Bool.{Bool, true, false}
 use mathlib.Core.List.{List, [], ◌∷◌, ◌++◌}
 use Prim.Native.Nat.{ℕ, zero, suc, ◌+◌, ◌-◌, ◌^◌, ◌≤◌, ◌<◌}
 use native.Mathlib.Omega.{arith}
-use borrow.Author.Tests.{le-ltb, lt-leb, eqb-true, eqb-false}
-use lib.Dec.{ltb, leb, eqb}
+use borrow.Author.Tests.{le-ltb, lt-leb, eqb-true}
+use lib.Dec.{eqb}
 use lib.ListN.{length, get_or}
 use Rattle.common.specs.Choose.{pick}
-use Rattle.common.specs.Got.{Got, got, bad, on}
 use Rattle.common.specs.Store.{part, shown}
-use Rattle.number_varint.specs.Varints.{shortest, varint_at}
+use Rattle.number_varint.specs.Varints.{shortest}
 use Rattle.common.specs.declared.times.Bases.{Bases}
-use Rattle.common.proofs.RoundTrip.{Reads, reads_got, reads_on, reads_at, reads_yes, reads_no, reads_to}
+use Rattle.common.proofs.RoundTrip.{Reads, reads_got, reads_at, reads_yes, reads_no, reads_to}
 use Rattle.common.proofs.Stands.{Stands, stands_left, stands_right, stands_byte, stands_part}
 use Rattle.number_varint.proofs.Varints.{varint_back}
 use Rattle.data_field.specs.Fields.{span, deletion, byte_at, in_at, deletion_at, variable_at, value_at}
 use Rattle.data_field.specs.declared.fields.Deletion.{Deletion}
-use Rattle.data_field.specs.declared.fields.Span.{Span}
 use Rattle.data_field.proofs.Ranges.{In, TimestampIn, LocalIn, TTLIn, DeletionIn}
 use Rattle.write_form.specs.Views.{show_value}
 use Rattle.write_form.specs.Cells.{length_bytes, field_bytes}

@@ -1,20 +1,20 @@
 -- What is read of Data can be written: what it shows is in range, of its columns' widths and in turn. Assumes nothing.
 use mathlib.Core.Path.{◌≡◌, refl, sym, ap, ◌∙◌, subst}
-use mathlib.Core.Bool.{Bool, true, false}
+use mathlib.Core.Bool.{true, false}
 use mathlib.Core.List.{List, [], ◌∷◌}
 use mathlib.Core.Logic.{◌⊎◌, inl, inr}
 use mathlib.Core.Option.{Option, none, some}
 use Prim.Native.Nat.{ℕ, zero, suc, ◌+◌, ◌-◌, ◌/◌, ◌%◌, ◌^◌, ◌≤◌, ◌<◌}
 use native.Mathlib.Omega.{arith}
-use borrow.Author.Tests.{le-ltb, eqb-true, eqb-false}
+use borrow.Author.Tests.{le-ltb, eqb-true}
 use lib.Dec.{ltb, eqb}
-use lib.ListN.{length, get_or, take, drop, length-take, length-drop}
+use lib.ListN.{length, get_or, take, length-take, length-drop}
 use Rattle.common.specs.Choose.{pick}
-use Rattle.common.specs.Got.{Got, got, bad, on}
+use Rattle.common.specs.Got.{Got}
 use Rattle.common.specs.Store.{part, shown}
 use Rattle.common.specs.declared.times.Bases.{Bases}
 use Rattle.common.proofs.Gives.{Gives, gives_got, gives_bad, gives_on, gives_pick}
-use Rattle.data_field.specs.Fields.{span, live, byte_at}
+use Rattle.data_field.specs.Fields.{live, byte_at}
 use Rattle.data_field.specs.declared.fields.Deletion.{Deletion}
 use Rattle.data_field.specs.declared.fields.Span.{Span}
 use Rattle.data_cell.specs.declared.cells.Times.{Times}
@@ -31,16 +31,16 @@ use Rattle.data_row.specs.declared.rows.Row.{Row}
 use Rattle.data_row.proofs.Gives.{RestOk, RowOk}
 use Rattle.data_marker.specs.Kinds.{marker_flags_at, kind_at, count_at}
 use Rattle.data_turns.specs.Turns.{is_start}
-use Rattle.data_marker.specs.Markers.{first_at, second_at, deletions_at, body_at, bound_at, marker_at}
+use Rattle.data_marker.specs.Markers.{second_at, deletions_at, body_at, bound_at, marker_at}
 use Rattle.data_turns.specs.Turns.{same_deletion}
 use Rattle.data_marker.specs.declared.markers.Deletions.{Deletions}
 use Rattle.data_marker.specs.declared.markers.Marker.{Marker}
 use Rattle.data_marker.proofs.Gives.{first_gives, MarkerOk}
-use Rattle.data_partition.proofs.Gives.{PartitionOk, partition_gives}
-use Rattle.data_contents.specs.Contents.{Widths, Entry, static_entry, row_entry, marker_entry, Contents, open_behind, row_entry_at, marker_entry_at, entry_at, closed_at, entries_in, entries_at, whole_at, partitions_in, contents_at}
+use Rattle.data_partition.proofs.Gives.{partition_gives}
+use Rattle.data_contents.specs.Contents.{Widths, Entry, static_entry, row_entry, marker_entry, open_behind, row_entry_at, marker_entry_at, entry_at, closed_at, entries_in, entries_at, whole_at, partitions_in, contents_at}
 use Rattle.data_contents.proofs.Gives.{CellsIn, RowIn, EntryIn, entry_gives}
 use Rattle.write_form.specs.Views.{show_value, show_values, show_cell, show_cells, show_row, show_entry, show_entries, show_partition, show_contents}
-use Rattle.write_form.specs.Fits.{ValueFits, ValuesFit, CellFits, CellsFit, RowFits, MarkerFits, EntryFits, open_view, EntriesFit, PartitionFits, AllFit}
+use Rattle.write_form.specs.Fits.{ValueFits, ValuesFit, CellFits, CellsFit, RowFits, EntryFits, EntriesFit, PartitionFits, AllFit}
 use Rattle.write_form.proofs.Fields.{shown_none}
 use Rattle.write_form.proofs.Whole.{open_shown}
 

@@ -1,12 +1,12 @@
 -- The writer's form of Data, and reading it: what can be written is read back and shows the same; what is read can be written; and the form
 -- is of what is shown alone, so that writing again gives the same bytes. Assumes nothing.
-use mathlib.Core.Path.{◌≡◌, refl, sym, ap, ◌∙◌, subst}
-use mathlib.Core.List.{List, []}
-use Prim.Native.Nat.{ℕ, ◌+◌, ◌*◌, ◌^◌, ◌≤◌, ◌<◌}
+use mathlib.Core.Path.{◌≡◌, sym, ap, ◌∙◌, subst}
+use mathlib.Core.List.{List}
+use Prim.Native.Nat.{ℕ, ◌+◌, ◌*◌, ◌^◌, ◌<◌}
 use native.Mathlib.Omega.{arith}
 use lib.ListN.{length, get_or}
 use Rattle.common.proofs.Gives.{got_value}
-use Rattle.common.specs.Got.{Got, got}
+use Rattle.common.specs.Got.{got}
 use Rattle.common.specs.declared.times.Bases.{Bases}
 use Rattle.common.proofs.RoundTrip.{Reads}
 use Rattle.common.proofs.Stands.{Stands}

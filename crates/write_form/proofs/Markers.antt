@@ -1,14 +1,12 @@
 -- A marker in the writer's form is read back. Assumes nothing.
-use mathlib.Core.Path.{◌≡◌, refl, sym, ap, ◌∙◌, subst}
+use mathlib.Core.Path.{◌≡◌, refl, sym, subst}
 use mathlib.Core.Bool.{Bool, true, false}
-use mathlib.Core.List.{List, [], ◌∷◌, ◌++◌, append-nil}
-use Prim.Native.Nat.{ℕ, zero, suc, ◌+◌, ◌-◌, ◌*◌, ◌/◌, ◌%◌, ◌^◌, ◌≤◌, ◌<◌}
+use mathlib.Core.List.{List, [], ◌∷◌, ◌++◌}
+use Prim.Native.Nat.{ℕ, ◌^◌, ◌≤◌, ◌<◌}
 use native.Mathlib.Omega.{arith}
-use borrow.Author.Tests.{le-ltb, eq-eqb}
-use lib.Dec.{ltb, eqb}
+use borrow.Author.Tests.{le-ltb}
 use lib.ListN.{length, take}
 use Rattle.common.specs.Choose.{pick}
-use Rattle.common.specs.Got.{Got, got, bad, on}
 use Rattle.number_fixed.specs.BigEndian.{bytes_of}
 use Rattle.common.specs.declared.times.Bases.{Bases}
 use Rattle.common.proofs.RoundTrip.{Reads, reads_got, reads_on, reads_at, reads_yes, reads_no, reads_to}
@@ -16,7 +14,6 @@ use Rattle.common.proofs.Stands.{Stands, stands_left, stands_right}
 use Rattle.number_fixed.proofs.BigEndian.{fixed_back}
 use Rattle.data_field.specs.Fields.{live}
 use Rattle.data_field.specs.declared.fields.Deletion.{Deletion}
-use Rattle.data_field.proofs.Ranges.{DeletionIn}
 use Rattle.data_clustering.specs.Prefixes.{values_at}
 use Rattle.data_marker.specs.Kinds.{marker_flags_at, kind_at, count_at}
 use Rattle.data_turns.specs.Turns.{bad_kind, is_start, is_boundary, out_of_turn}
@@ -25,15 +22,15 @@ use Rattle.data_turns.specs.Turns.{same_deletion}
 use Rattle.data_marker.specs.declared.markers.Deletions.{Deletions}
 use Rattle.data_marker.specs.declared.markers.Marker.{Marker}
 use Rattle.data_marker.proofs.Gives.{DeletionsIn}
-use Rattle.data_contents.specs.Contents.{Widths, Entry, marker_entry, marker_entry_at}
-use Rattle.write_form.specs.Views.{MarkerView, EntryView, marker_view, show_entry, show_values}
+use Rattle.data_contents.specs.Contents.{Widths, marker_entry, marker_entry_at}
+use Rattle.write_form.specs.Views.{MarkerView, marker_view, show_entry, show_values}
 use Rattle.write_form.specs.Clusterings.{prefix_bytes}
 use Rattle.write_form.specs.Rows.{deletion_bytes, sized_bytes}
 use Rattle.write_form.specs.Markers.{deletions_bytes, bound_bytes, marker_bytes}
 use Rattle.write_form.specs.Fits.{Bounded, MarkerFits}
 use Rattle.write_form.proofs.Fields.{either, stands_none, byte_back, deletion_back}
 use Rattle.write_form.proofs.Clusterings.{values_length, prefix_back}
-use Rattle.write_form.proofs.Rows.{behind_sizes, sized_rest, sizes_back}
+use Rattle.write_form.proofs.Rows.{sized_rest, sizes_back}
 
 pick_left : (t : Bool) (v w : List ℕ) → t ≡ true → pick t v w ≡ v
 unfolding pick

@@ -1,26 +1,23 @@
 -- A partition's header in the writer's form is read back. Assumes nothing.
-use mathlib.Core.Path.{◌≡◌, refl, sym, ap, ◌∙◌, subst}
-use mathlib.Core.Bool.{Bool, true, false}
-use mathlib.Core.List.{List, [], ◌∷◌, ◌++◌}
-use Prim.Native.Nat.{ℕ, zero, suc, ◌+◌, ◌-◌, ◌*◌, ◌/◌, ◌%◌, ◌^◌, ◌≤◌, ◌<◌}
+use mathlib.Core.Path.{◌≡◌, refl, sym, ◌∙◌, subst}
+use mathlib.Core.List.{List, ◌++◌}
+use Prim.Native.Nat.{ℕ, zero, suc, ◌+◌, ◌-◌, ◌^◌, ◌≤◌, ◌<◌}
 use native.Mathlib.Omega.{arith}
-use borrow.Author.Tests.{le-ltb, ne_eqb, eq-eqb, eqb-true}
-use lib.Dec.{ltb, eqb}
+use borrow.Author.Tests.{le-ltb, ne_eqb, eq-eqb}
+use lib.Dec.{eqb}
 use lib.ListN.{length}
 use Rattle.common.specs.Choose.{pick, bind}
-use Rattle.common.specs.Got.{Got, got, bad, on}
 use Rattle.common.specs.Store.{shown}
-use Rattle.number_fixed.specs.BigEndian.{bytes_of, fixed_at}
+use Rattle.number_fixed.specs.BigEndian.{bytes_of}
 use Rattle.common.specs.Times.{biased}
 use Rattle.common.proofs.Choose.{pick_ind}
-use Rattle.common.proofs.RoundTrip.{Reads, reads_got, reads_on, reads_at, reads_yes, reads_no, reads_to}
+use Rattle.common.proofs.RoundTrip.{Reads, reads_got, reads_at, reads_yes, reads_no}
 use Rattle.common.proofs.Stands.{Stands, stands_left, stands_right}
 use Rattle.number_fixed.proofs.BigEndian.{fixed_back}
-use Rattle.data_field.specs.Fields.{span, deletion, live}
+use Rattle.data_field.specs.Fields.{deletion, live}
 use Rattle.data_field.specs.declared.fields.Deletion.{Deletion}
 use Rattle.data_field.specs.declared.fields.Span.{Span}
 use Rattle.data_partition.specs.Partitions.{key_of, deleted_by, deleted_at, partition_at}
-use Rattle.data_partition.specs.declared.partitions.Partition.{Partition}
 use Rattle.data_partition.proofs.Gives.{DeletedIn}
 use Rattle.write_form.specs.Views.{show_value}
 use Rattle.write_form.specs.Partitions.{header_local, deleted_bytes, head_bytes}

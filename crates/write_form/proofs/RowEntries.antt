@@ -1,29 +1,28 @@
 -- A row with its cells, and a static one, in the writer's form is read back. Assumes nothing.
-use mathlib.Core.Path.{◌≡◌, refl, sym, ap, ◌∙◌, subst}
-use mathlib.Core.Bool.{Bool, true, false}
+use mathlib.Core.Path.{◌≡◌, refl, sym, subst}
+use mathlib.Core.Bool.{true, false}
 use mathlib.Core.List.{List, [], ◌∷◌, ◌++◌}
-use mathlib.Core.Option.{Option, none, some}
-use Prim.Native.Nat.{ℕ, zero, suc, ◌+◌, ◌-◌, ◌*◌, ◌/◌, ◌%◌, ◌^◌, ◌≤◌, ◌<◌}
+use Prim.Native.Nat.{ℕ, ◌+◌, ◌/◌, ◌%◌, ◌^◌, ◌<◌}
 use native.Mathlib.Omega.{arith}
 use borrow.Author.Tests.{ne_eqb, eq-eqb}
-use lib.Dec.{ltb, eqb}
+use lib.Dec.{eqb}
 use lib.ListN.{length}
 use Rattle.common.specs.Choose.{pick}
-use Rattle.common.specs.Got.{Got, got, bad, on}
+use Rattle.common.specs.Got.{Got}
 use Rattle.common.specs.declared.times.Bases.{Bases}
-use Rattle.common.proofs.RoundTrip.{Reads, reads_got, reads_on, reads_at, reads_yes, reads_no, reads_to}
+use Rattle.common.proofs.RoundTrip.{Reads, reads_got, reads_on, reads_at, reads_yes, reads_no}
 use Rattle.common.proofs.Stands.{Stands, stands_left, stands_right}
 use Rattle.data_row.specs.Flags.{bad_row_flags, row_flags_at, extended_of, extended_at}
 use Rattle.data_turns.specs.Turns.{may_stand}
-use Rattle.data_row.specs.Rows.{rest_at, row_at}
+use Rattle.data_row.specs.Rows.{row_at}
 use Rattle.data_row.specs.declared.rows.Row.{Row}
-use Rattle.data_contents.specs.Contents.{Widths, Entry, static_entry, row_entry, row_entry_at}
-use Rattle.write_form.specs.Views.{RowView, EntryView, static_view, row_view, show_entry, show_row}
+use Rattle.data_contents.specs.Contents.{Widths, static_entry, row_entry, row_entry_at}
+use Rattle.write_form.specs.Views.{RowView, static_view, row_view, show_entry}
 use Rattle.write_form.specs.Clusterings.{header_bytes, values_bytes, prefix_bytes}
 use Rattle.write_form.specs.Rows.{missing_of, cells_bytes, flags_of, content_bytes, sized_bytes, static_bytes, row_bytes}
 use Rattle.write_form.specs.Fits.{Bounded, RowFits, ValuesFit}
 use Rattle.write_form.proofs.Fields.{byte_back}
-use Rattle.write_form.proofs.Rows.{present_of, RowBits, flags_are, Shows, rest_back, body_cells_back}
+use Rattle.write_form.proofs.Rows.{RowBits, flags_are, Shows, rest_back, body_cells_back}
 
 flags_back : (s : List ℕ) (end at n f : ℕ) → bad_row_flags f ≡ false → Stands s end at n (f ∷ []) → Reads (row_flags_at s at end) n (λ y. y ≡ f)
 unfolding row_flags_at

@@ -4,13 +4,13 @@ use mathlib.Core.Bool.{Bool, true, false}
 use mathlib.Core.List.{List, [], ◌∷◌, ◌++◌, append-nil}
 use mathlib.Core.Option.{Option, none, some}
 use Prim.Native.Nat.{ℕ, zero, suc, ◌+◌, ◌-◌, ◌*◌, ◌/◌, ◌%◌, ◌^◌, ◌≤◌, ◌<◌}
-use native.Mathlib.Nat.{pow-succ', pow-le-pow_right, lt_of_lt_of_le}
+use native.Mathlib.Nat.{pow-succ', pow-le-pow_right}
 use native.Mathlib.Omega.{arith}
-use borrow.Author.Tests.{le-ltb, ne_eqb, eq-eqb, eqb-true, eqb-false}
-use lib.Dec.{ltb, eqb, lit<}
-use lib.ListN.{length, length-append}
+use borrow.Author.Tests.{le-ltb, ne_eqb, eqb-true}
+use lib.Dec.{eqb, lit<}
+use lib.ListN.{length}
 use Rattle.common.specs.Choose.{pick, bind}
-use Rattle.common.specs.Got.{Got, got, bad, on}
+use Rattle.common.specs.Got.{got, on}
 use Rattle.number_varint.specs.Varints.{shortest, varint_at}
 use Rattle.common.specs.declared.times.Bases.{Bases}
 use Rattle.common.proofs.Choose.{pick_ind}
@@ -20,7 +20,6 @@ use Rattle.number_varint.proofs.Varints.{varint_back}
 use Rattle.data_field.specs.Fields.{deletion, live}
 use Rattle.data_field.specs.declared.fields.Deletion.{Deletion}
 use Rattle.data_cell.specs.declared.cells.Times.{Times}
-use Rattle.data_cell.specs.declared.cells.Cell.{Cell}
 use Rattle.data_field.proofs.Ranges.{DeletionIn}
 use Rattle.data_cell.proofs.Gives.{TimesIn}
 use Rattle.data_clustering.specs.Prefixes.{values_at}
@@ -31,7 +30,7 @@ use Rattle.data_row.specs.Rows.{rest_at}
 use Rattle.data_row.specs.declared.bodies.Body.{Body}
 use Rattle.data_row.specs.declared.rows.Row.{Row}
 use Rattle.data_contents.specs.Contents.{cells_at, body_cells_at}
-use Rattle.write_form.specs.Views.{CellView, RowView, show_cell, show_cells, show_values}
+use Rattle.write_form.specs.Views.{CellView, RowView, show_cells, show_values}
 use Rattle.write_form.specs.Cells.{cell_form}
 use Rattle.write_form.specs.Clusterings.{prefix_bytes}
 use Rattle.write_form.specs.Rows.{row_expiry_bytes, liveness_bytes, deletion_bytes, row_deletion_bytes, missing_of, missing_bytes, cells_bytes, row_flags, flags_of, content_bytes, sized_bytes}

@@ -13,9 +13,8 @@ use Rattle.data_field.specs.declared.fields.Deletion.{Deletion}
 use Rattle.data_cell.specs.declared.cells.Times.{Times}
 use Rattle.data_row.specs.Bodies.{times}
 use Rattle.data_turns.specs.Turns.{is_boundary}
-use Rattle.data_marker.specs.declared.markers.Deletions.{Deletions}
 use Rattle.data_contents.specs.Contents.{Widths}
-use Rattle.write_form.specs.Views.{CellView, RowView, MarkerView, EntryView, static_view, row_view, marker_view, PartitionView}
+use Rattle.write_form.specs.Views.{CellView, RowView, EntryView, static_view, row_view, marker_view, PartitionView}
 use Rattle.write_form.specs.Cells.{same_time, same_expiry, no_value, kind_bits, cell_flags, timestamp_bytes, ttl_bytes, expiry_bytes, length_bytes, field_bytes, value_bytes, last_bytes, tail_bytes, cell_bytes}
 use Rattle.write_form.specs.Clusterings.{header_of, header_bytes, clustering_bytes, values_bytes, prefix_bytes}
 use Rattle.write_form.specs.Rows.{row_expiry_bytes, liveness_bytes, deletion_bytes, row_deletion_bytes, missing_of, missing_bytes, cells_bytes, row_flags, content_bytes, sized_bytes, static_bytes, row_bytes}

@@ -1,28 +1,26 @@
 -- Data in the writer's form is read back, whole. Assumes nothing.
 use mathlib.Core.Path.{◌≡◌, refl, sym, ap, ◌∙◌, subst}
-use mathlib.Core.Bool.{Bool, true, false}
+use mathlib.Core.Bool.{false}
 use mathlib.Core.List.{List, [], ◌∷◌, ◌++◌, append_assoc}
-use Prim.Native.Nat.{ℕ, zero, suc, ◌+◌, ◌-◌, ◌*◌, ◌/◌, ◌%◌, ◌^◌, ◌≤◌, ◌<◌}
+use Prim.Native.Nat.{ℕ, ◌+◌, ◌-◌, ◌%◌, ◌^◌, ◌≤◌, ◌<◌}
 use native.Mathlib.Omega.{arith}
 use borrow.Author.Tests.{ne_eqb, eq-eqb}
-use lib.Dec.{ltb, eqb}
+use lib.Dec.{eqb}
 use lib.ListN.{length, length-append}
-use Rattle.common.specs.Choose.{pick}
-use Rattle.common.specs.Got.{Got, got, bad, on}
 use Rattle.common.specs.declared.times.Bases.{Bases}
 use Rattle.common.proofs.RoundTrip.{Reads, reads_got, reads_on, reads_at, reads_yes, reads_no, reads_to}
 use Rattle.common.proofs.Stands.{Stands, stands_left, stands_right}
 use Rattle.data_field.specs.Fields.{byte_at, live}
 use Rattle.data_field.specs.declared.fields.Deletion.{Deletion}
-use Rattle.data_contents.specs.Contents.{Widths, Entry, static_entry, row_entry, marker_entry, Contents, open_behind, entry_at, closed_at, entries_at, whole_at, contents_at}
+use Rattle.data_contents.specs.Contents.{Widths, Entry, static_entry, row_entry, marker_entry, open_behind, entry_at, closed_at, entries_at, whole_at, contents_at}
 use Rattle.data_contents.proofs.Unfolds.{entries_unfold, contents_unfold}
-use Rattle.write_form.specs.Views.{RowView, EntryView, static_view, row_view, marker_view, PartitionView, show_entry, show_entries, show_partition, show_contents}
+use Rattle.write_form.specs.Views.{EntryView, static_view, row_view, marker_view, PartitionView, show_entry, show_entries, show_partition, show_contents}
 use Rattle.write_form.specs.Rows.{flags_of, content_bytes, sized_bytes, static_bytes, row_bytes}
 use Rattle.write_form.specs.Clusterings.{prefix_bytes}
 use Rattle.write_form.specs.Markers.{bound_bytes, marker_bytes}
 use Rattle.write_form.specs.Partitions.{head_bytes}
 use Rattle.write_form.specs.Whole.{entry_bytes, back_behind, entries_bytes, partition_bytes, form_of}
-use Rattle.write_form.specs.Fits.{Bounded, RowFits, EntryFits, open_view, EntriesFit, PartitionFits, AllFit}
+use Rattle.write_form.specs.Fits.{Bounded, EntryFits, open_view, EntriesFit, PartitionFits, AllFit}
 use Rattle.write_form.proofs.Fields.{stands_none, byte_back}
 use Rattle.write_form.proofs.Rows.{flags_are}
 use Rattle.write_form.proofs.RowEntries.{static_entry_back, row_entry_back}

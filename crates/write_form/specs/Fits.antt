@@ -1,6 +1,6 @@
 -- What can be written under the bases b, in a table whose columns have given widths: numbers in range and not below their base, values of
 -- their column's width, entries in turn. Assumes nothing.
-use Rattle.std.specs.Prelude.{◌≡◌, Bool, true, false, List, [], ◌∷◌, ℕ, ◌^◌, ◌≤◌, ◌<◌, eqb, length, take}
+use Rattle.std.specs.Prelude.{◌≡◌, true, false, List, [], ◌∷◌, ℕ, ◌^◌, ◌≤◌, ◌<◌, eqb, length, take}
 use Rattle.std.proofs.Math.Option.{Option, none, some}
 use Rattle.common.specs.declared.times.Bases.{Bases}
 use Rattle.data_field.specs.Fields.{live}

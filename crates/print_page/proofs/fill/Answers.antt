@@ -1,5 +1,4 @@
 use borrow.Author.Rules.{rules}
-use Prim.Native.Nat.{◌-◌}
 use Rattle.common.proofs.Puts.{puts_same}
 use Rattle.print_page.proofs.Paging.{paging}
 use Rattle.print_page.proofs.fill.Goals as goal

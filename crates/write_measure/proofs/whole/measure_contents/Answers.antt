@@ -1,4 +1,3 @@
-use Prim.Native.Nat.{◌-◌}
 use Rattle.write_measure.proofs.Loops.{passing}
 use borrow.Author.Rules.{rules}
 use Rattle.write_measure.proofs.whole.measure_contents.Goals as goal

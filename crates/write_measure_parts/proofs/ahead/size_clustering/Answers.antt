@@ -1,4 +1,3 @@
-use Prim.Native.Nat.{◌-◌}
 use Rattle.write_measure_parts.proofs.Values.{valued_more, sizing}
 use borrow.Author.Rules.{rules}
 use Rattle.write_measure_parts.proofs.ahead.size_clustering.Goals as goal

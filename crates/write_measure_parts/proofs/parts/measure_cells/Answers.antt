@@ -1,4 +1,3 @@
-use Prim.Native.Nat.{◌-◌}
 use Rattle.write_measure_parts.proofs.Cells.{celling}
 use borrow.Author.Rules.{rules}
 use Rattle.write_measure_parts.proofs.parts.measure_cells.Goals as goal

@@ -1,5 +1,4 @@
 use Rattle.write_store.proofs.PutContents.{filing}
-use Prim.Native.Nat.{◌-◌}
 use borrow.Author.Rules.{rules}
 use Rattle.write_store.proofs.whole.put_contents.Goals as goal
 

@@ -1,5 +1,4 @@
 use Rattle.write_store.proofs.PutEntries.{storing}
-use Prim.Native.Nat.{◌-◌}
 use borrow.Author.Rules.{rules}
 use Rattle.write_store.proofs.whole.put_entries.Goals as goal
 

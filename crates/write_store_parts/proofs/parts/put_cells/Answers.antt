@@ -1,5 +1,4 @@
 use Rattle.write_store_parts.proofs.PutCells.{celling}
-use Prim.Native.Nat.{◌-◌}
 use borrow.Author.Rules.{rules}
 use Rattle.write_store_parts.proofs.parts.put_cells.Goals as goal
 

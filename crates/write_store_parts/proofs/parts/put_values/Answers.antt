@@ -1,5 +1,4 @@
 use Rattle.write_store_parts.proofs.PutValues.{valuing}
-use Prim.Native.Nat.{◌-◌}
 use borrow.Author.Rules.{rules}
 use Rattle.write_store_parts.proofs.parts.put_values.Goals as goal
 
