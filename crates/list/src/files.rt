@@ -1,5 +1,5 @@
 // Reading the files of a folder.
-ghost use Rattle.std.specs.Prelude.{◌+◌, ◌≤◌, length, IfOk, IfSome};
+ghost use Rattle.std.specs.Prelude.{◌≡◌, ◌+◌, ◌≤◌, length, IfOk, IfErr, IfSome};
 ghost use Rattle.common.specs.Store.{Room, Puts};
 ghost use Rattle.list.specs.Files.{name_of, path_of, Loads};
 
@@ -98,7 +98,8 @@ fn read_file(file: &mut impl Read, buf: &mut [u8]) -> io::Result<Option<usize>>
     if got == 0 { Ok(Some(n)) } else { Ok(None) }
 }
 
-// Reads all of a file into buf, from its start on. An error is the output's, where what is not listed could not be said.
+// Reads all of a file into buf, from its start on. An error is the output's, where what is not listed could not be said: buf then has
+// as many bytes as before, and which they are is open.
 pub(crate) fn load(
     rt: &(impl Files + Print),
     folder: &[u8],
@@ -106,7 +107,8 @@ pub(crate) fn load(
     buf: &mut [u8],
 ) -> io::Result<Loaded>
     requires { length name.now ≤ 64 }
-    ensures { IfOk result (λ loaded. Loads loaded buf.new) }
+    ensures ok { IfOk result (λ loaded. Loads loaded buf.new) }
+    ensures err { IfErr result (λ _. length buf.new ≡ length buf.old) }
 {
     let Some(mut file) = open_in(rt, folder, name) else {
         say(rt, folder, name, b" cannot be opened\n")?;

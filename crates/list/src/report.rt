@@ -1,5 +1,5 @@
 // What is printed of the two files.
-ghost use Rattle.std.specs.Prelude.{◌≡◌, ◌*◌, ◌≤◌, length, take, IfOk};
+ghost use Rattle.std.specs.Prelude.{◌≡◌, ◌*◌, ◌≤◌, length, take, IfOk, IfErr};
 ghost use Rattle.stats_file.specs.Buffer.{column_count};
 ghost use Rattle.print_page.specs.Pages.{page_at, answer_of, len_of};
 ghost use Rattle.list.specs.Reports.{counted_at, begun_at, begun_of, Fit};
@@ -77,7 +77,8 @@ fn length_of(filled: Filled) -> usize
     }
 }
 
-// Prints the page of the cursor, by way of the buffer: what its filling answered.
+// Prints the page of the cursor, by way of the buffer: what its filling answered. An error is the output's: the buffer has as many bytes
+// as before, and the page may be printed in part.
 fn print_by(
     rt: &impl Print,
     page: &mut [u8],
@@ -87,14 +88,15 @@ fn print_by(
     cursor: Cursor,
 ) -> io::Result<Filled>
     requires { 4032 ≤ length page.old }
-    ensures { IfOk result (λ filled. filled ≡ answer_of (page_at schema.now bases «data».now cursor)) }
+    ensures ok { IfOk result (λ filled. filled ≡ answer_of (page_at schema.now bases «data».now cursor)) }
+    ensures err { IfErr result (λ _. length page.new ≡ length page.old) }
 {
     let filled = print_page::fill_page(schema, bases, data, cursor, page);
     write(rt, page, length_of(filled))?;
     Ok(filled)
 }
 
-// Prints the page of the cursor.
+// Prints the page of the cursor. An error is the output's: the page may be printed in part, and nothing that was lent is changed.
 fn print_page(
     rt: &impl Print,
     schema: &[u8],

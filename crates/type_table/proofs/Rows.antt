@@ -105,15 +105,15 @@ it_is_not true t = absurd t
 it_is_not false t = refl
 
 -- ---- whether a number is a line's
-pub line-zero : (l : ℕ) → l ≡ 0 → false ≡ is_line l
+pub line_zero : (l : ℕ) → l ≡ 0 → false ≡ is_line l
 unfolding is_line
-line-zero l e = search cases
+line_zero l e = search cases
 
 pub line_some : (l : ℕ) → (l ≡ 0 → ⊥) → leb l 34 ≡ is_line l
 unfolding is_line
 line_some l h = rw lines (search cases)
 
-pub ruleset line-cases = (line-zero, line_some)
+pub ruleset line_cases = (line_zero, line_some)
 
 pub line_yes : (l : ℕ) → 1 ≤ l → l ≤ 34 → true ≡ is_line l
 unfolding is_line

@@ -19,8 +19,8 @@ outside_timestamp b used v = outside used 1 18446744073709551615 b.timestamp v
 abbrev pub outside_local : Bases → Bool → ℕ → Bool
 outside_local b used v = outside used 0 2147483646 b.local v
 
-abbrev pub outsideTTL : Bases → Bool → ℕ → Bool
-outsideTTL b used v = outside used 1 2147483647 b.ttl v
+abbrev pub outside_ttl : Bases → Bool → ℕ → Bool
+outside_ttl b used v = outside used 1 2147483647 b.ttl v
 
 -- the numbers of the record at at that are tested last
 unfoldable pub last_ranges_at : Bases → Item → ℕ → Got Item
@@ -34,7 +34,7 @@ last_ranges_at b i at =
 -- the item i that is the record at at, its numbers in range
 unfoldable pub ranges_at : Bases → Item → ℕ → Got Item
 ranges_at b i at =
-    pick (outsideTTL b (has_expiry i) i.ttl) (bad OutOfRange (at + 4))
+    pick (outside_ttl b (has_expiry i) i.ttl) (bad OutOfRange (at + 4))
     (pick (outside_timestamp b (has_time i) i.timestamp) (bad OutOfRange (at + 8))
     (pick (outside_timestamp b (has_mark i) i.mark) (bad OutOfRange (at + 16))
     (last_ranges_at b i at)))

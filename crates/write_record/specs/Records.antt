@@ -6,7 +6,7 @@ use Rattle.common.specs.declared.refusal.Fault.TheVariants.{OutOfRange, BadRecor
 use Rattle.common.specs.declared.times.Bases.{Bases}
 use Rattle.data_items.specs.declared.Item.{Item}
 use Rattle.write_accept.specs.Fields.{item_of, stray_bytes, stray_numbers, has_time, has_expiry, has_local, has_mark, has_second}
-use Rattle.write_accept.specs.Records.{outside_timestamp, outside_local, outsideTTL}
+use Rattle.write_accept.specs.Records.{outside_timestamp, outside_local, outside_ttl}
 use Rattle.write_accept.specs.Tests.{bad_partition, bad_static, bad_marker, bad_end}
 use Rattle.write_record.specs.declared.tests.Turn.{Turn}
 use Rattle.write_record.specs.declared.tests.Turn.TheVariants.{Partition, Static, Marker, End}
@@ -38,7 +38,7 @@ own_last_at b i at =
 
 unfoldable pub own_at : Bases → Item → ℕ → Got Item
 own_at b i at =
-    pick (outsideTTL b (has_expiry i) i.ttl) (bad OutOfRange (at + 4))
+    pick (outside_ttl b (has_expiry i) i.ttl) (bad OutOfRange (at + 4))
     (pick (outside_timestamp b (has_time i) i.timestamp) (bad OutOfRange (at + 8))
     (pick (outside_timestamp b (has_mark i) i.mark) (bad OutOfRange (at + 16))
     (own_last_at b i at)))

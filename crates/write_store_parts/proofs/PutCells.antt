@@ -70,7 +70,7 @@ module _ (b : Bases) (row : Times) (c : List ℕ) (base : ℕ) (bytes s : List �
     unfolding cell_again
     one_puts d d' to n p = rw (g, ← column_at_lem s at) at p
 
-pub ruleset one_Cell = (one_record, one_third, one_byte, one_cast, one_index, one_product, one_column, one_width, one_lies, one_room, one_puts)
+pub ruleset one_cell = (one_record, one_third, one_byte, one_cast, one_index, one_product, one_column, one_width, one_lies, one_room, one_puts)
 
 -- ---- one after the other
 there_first : (c : List ℕ) (base : ℕ) (bytes s : List ℕ) (at k : ℕ) → CellsThere c base bytes s at (suc k) → CellsThere c base bytes s at 1
