@@ -6,6 +6,7 @@ usage: tools/respell.py            at the top of the repository, once, after the
 tools/respelled.tsv has a row for each name: the old spelling, a tab, the new one. Whole words turn, in the .antt files of specs/ and
 proofs/, in clauses and imports of src/, in must-fail edits, and in code spans of comments and pages. A name that a file imports from
 a library of the toolchain stays in that file. Functions of src/, exported C names, strings, inputs and outputs keep their names.
+Run it once: some new names are old ones of other lemmas, which a second run would turn too.
 """
 import glob
 import os
@@ -28,7 +29,7 @@ def word(m, kept):
 
 
 def spans(text):
-    """Code spans, and bare words that are no English: in camel case, or with their place in a list."""
+    """Turns code spans, and bare words in camel case."""
     text = SPAN.sub(lambda m: WORD.sub(lambda w: word(w, ()), m[0]), text)
     return re.sub(r"(?<![\w'`-])[a-z]+[A-Z][\w']*(?![\w'-])", lambda m: word(m, ()), text)
 
