@@ -7,18 +7,20 @@ use native.Mathlib.Omega.{arith}
 use borrow.Author.Tests.{ltb-true, ltb-false, eqb-false}
 use lib.Dec.{ltb, eqb}
 use lib.ListN.{length}
+use Rattle.std.proofs.Common.{Result, Ok, Continue}
+use Rattle.std.specs.Result.{result_from_control_flow}
 use Rattle.common.specs.Choose.{pick, bind}
 use Rattle.common.specs.Got.{Got, got, bad, within}
-use Rattle.common.specs.Refusals.{taken, refused}
+use Rattle.common.specs.Refusals.{taken, refused, outcome}
 use Rattle.common.specs.declared.refusal.Fault.TheVariants.{OverLimit, OutOfRange}
+use Rattle.common.specs.declared.refusal.Refusal.{Refusal}
 use Rattle.common.specs.declared.refusal.Slice.TheVariants.{Schema, Data, Output, Bases as bases-slice}
 use Rattle.common.specs.declared.times.Bases.{Bases}
+use Rattle.common.proofs.Said.{tried}
 use Rattle.common.proofs.Gives.{Gives, gives_got, gives_bad, gives_on, gives_pick}
-use Rattle.schema_check.specs.Records.{role_at, none, given, is_first, count_of, most_of, in_turn, with_one, record_at, records_at, schema_at, schema_of, anywhere, said_checked}
+use Rattle.schema_check.specs.Records.{role_at, none, given, is_first, count_of, most_of, in_turn, with_one, record_at, records_at, schema_at, schema_of, anywhere}
 use Rattle.schema_check.specs.declared.records.Counts.{Counts}
 use Rattle.call_check.specs.Tables.{Table, bad_bases, table_at}
-use Rattle.schema_check.specs.declared.records.Checked.{Checked}
-use Rattle.schema_check.specs.declared.records.Checked.TheVariants.{Counted}
 
 -- the records before at, in len bytes, are counted in c
 record Fills (len at : ℕ) (c : Counts) : Type 0 where
@@ -121,10 +123,10 @@ module _ (limit : ℕ) (s : List ℕ) where
       go false (bad y p) d f = let z : ◌≡◌ {A = ℕ} 0 1 = cc in absurd (omega arith)
 
 -- ---- what a call that was not refused knows of its table
-module _ (c : List ℕ) (b : Bases) (s : List ℕ) (room : ℕ) (k : Counts) where
-  tested : table_at c b s room ≡ taken k → (length s ≤ 1073741824) × (schema_of anywhere c ≡ taken k)
+module _ (c : List ℕ) (bases : Bases) (s : List ℕ) (room : ℕ) (k : Counts) where
+  tested : table_at c bases s room ≡ taken k → (length s ≤ 1073741824) × (schema_of anywhere c ≡ taken k)
   unfolding table_at pick
-  tested e = go (ltb 1073741824 (length c)) (ltb 1073741824 (length s)) (ltb 1073741824 room) (bad_bases b) refl e
+  tested e = go (ltb 1073741824 (length c)) (ltb 1073741824 (length s)) (ltb 1073741824 room) (bad_bases bases) refl e
     where
       go : (x y z w : Bool) → ltb 1073741824 (length s) ≡ y
           → pick x (refused OverLimit Schema 0) (pick y (refused OverLimit Data 0) (pick z (refused OverLimit Output 0) (pick w (refused OutOfRange bases-slice 0) (schema_of anywhere c)))) ≡ taken k
@@ -135,12 +137,12 @@ module _ (c : List ℕ) (b : Bases) (s : List ℕ) (room : ℕ) (k : Counts) whe
       go false false false true d f = let q : ◌≡◌ {A = ℕ} 0 1 = cc in absurd (omega arith)
       go false false false false d f = (ltb-false _ _ d, f)
 
-  pub table_taken : table_at c b s room ≡ taken k → Table (length c) k
+  pub table_taken : table_at c bases s room ≡ taken k → Table (length c) k
   table_taken e = schema_table anywhere c k (tested e).1
 
-  module _ (r : Checked) (e : said_checked r ≡ table_at c b s room) (f : r ≡ Counted k) where
-    taken_as : table_at c b s room ≡ taken k
-    unfolding said_checked
+  module _ (r : Result Counts Refusal) (e : outcome r ≡ table_at c bases s room) (f : r ≡ Ok k) where
+    taken_as : table_at c bases s room ≡ taken k
+    unfolding outcome
     taken_as = sym e ∙ rw f refl
 
     pub told_table : Table (length c) k
@@ -148,6 +150,14 @@ module _ (c : List ℕ) (b : Bases) (s : List ℕ) (room : ℕ) (k : Counts) whe
 
     pub told_length : length s ≤ 1073741824
     told_length = (tested taken_as).0
+
+  -- the same behind `?`
+  module _ (r : Result Counts Refusal) (b : _) (e : outcome r ≡ table_at c bases s room) (f : r ≡ result_from_control_flow b) (g : b ≡ Continue k) where
+    pub tried_table : Table (length c) k
+    tried_table = told_table r e (tried r b k f g)
+
+    pub tried_length : length s ≤ 1073741824
+    tried_length = told_length r e (tried r b k f g)
 
 -- what that tells of the columns
 module _ (len : ℕ) (k : Counts) (t : Table len k) where
@@ -172,4 +182,4 @@ module _ (len : ℕ) (k : Counts) (t : Table len k) where
   pub table_regulars : (x : ℕ) → x ≡ k.regulars → x ≤ 63
   table_regulars x a = omega (arith, t.regulars)
 
-pub ruleset tables = (table_filled, table_rows, table_statics_in, table_regulars_in, table_clustering, table_statics, table_regulars, told_table, told_length, refl)
+pub ruleset tables = (table_filled, table_rows, table_statics_in, table_regulars_in, table_clustering, table_statics, table_regulars, told_table, told_length, tried_table, tried_length, refl)

@@ -1,9 +1,9 @@
 -- Calls that store one after the other: `search puts` finds that each has room, and what they leave. Assumes nothing.
-use Rattle.std.proofs.Common.{◌≡◌, ℕ, ◌+◌, ◌-◌, ◌^◌, ◌<◌, ◌≤◌, Bool, true, false, leb, List, [], ◌++◌, length, get_or, take, drop, set, sym, refl, ap, ◌∙◌, append-nil, add-zero, arith, length-append, length-drop, length-set, take-append-drop, length-take, get_or-drop, get_or-take, w64, Fits, le-ltb, le-leb}
+use Rattle.std.proofs.Common.{◌≡◌, ℕ, Some, None, ◌+◌, ◌-◌, ◌^◌, ◌<◌, ◌≤◌, Bool, true, false, leb, List, [], ◌++◌, length, get_or, take, drop, set, sym, refl, ap, ◌∙◌, append-nil, add-zero, arith, length-append, length-drop, length-set, take-append-drop, length-take, drop-drop, append_assoc, get_or-drop, get_or-take, w64, Fits, le-ltb, le-leb}
 use borrow.Author.Tests.{lt-leb}
+use borrow.Rule.Slice.PartMut.{put_mid}
 use Rattle.common.specs.Choose.{pick}
 use Rattle.common.specs.Store.{splice, part, Room, Puts, stored, storing, Stores, shown}
-use Rattle.common.specs.declared.number.Stored.TheVariants.{At, Full}
 use Rattle.common.proofs.Choose.{pick_yes, pick_no}
 use Rattle.common.proofs.Splices.{filled, filled_none, filled_more, filled_all, splice_splice, length_splice}
 
@@ -50,20 +50,20 @@ pub room_is : (d : List ℕ) (at : ℕ) (w : List ℕ) (n : ℕ) → length w �
 room_is d at w n l h k = record { fits = omega arith }
 
 -- ---- stores that test whether there is room
-stores_not : (d : List ℕ) (at : ℕ) (w : List ℕ) → leb (at + length w) (length d) ≡ false → Stores d d at w Full
+stores_not : (d : List ℕ) (at : ℕ) (w : List ℕ) → leb (at + length w) (length d) ≡ false → Stores d d at w None
 unfolding stored storing
 stores_not d at w h = record { answer = pick_no _ _ _ _ h refl; buffer = pick_no _ _ _ _ h refl }
 
-pub stores_over : (d : List ℕ) (at : ℕ) (w : List ℕ) (n : ℕ) → length w ≡ n → at ≤ length d → length d - at < n → Stores d d at w Full
+pub stores_over : (d : List ℕ) (at : ℕ) (w : List ℕ) (n : ℕ) → length w ≡ n → at ≤ length d → length d - at < n → Stores d d at w None
 stores_over d at w n l k h = stores_not d at w (lt-leb (at + length w) (length d) (omega arith))
 
-pub stores_past : (d : List ℕ) (at : ℕ) (w : List ℕ) → length d < at → Stores d d at w Full
+pub stores_past : (d : List ℕ) (at : ℕ) (w : List ℕ) → length d < at → Stores d d at w None
 stores_past d at w h = stores_not d at w (lt-leb (at + length w) (length d) (omega arith))
 
-pub stores_fits : (d d' : List ℕ) (at : ℕ) (w : List ℕ) (n : ℕ) → Room d at w → Puts d d' at w n → Stores d d' at w (At n)
+pub stores_fits : (d d' : List ℕ) (at : ℕ) (w : List ℕ) (n : ℕ) → Room d at w → Puts d d' at w n → Stores d d' at w (Some n)
 unfolding stored storing
 stores_fits d d' at w n r p = record {
-  answer = pick_yes _ _ _ _ (le-leb (at + length w) (length d) r.fits) (ap At p.next);
+  answer = pick_yes _ _ _ _ (le-leb (at + length w) (length d) r.fits) (ap Some p.next);
   buffer = pick_yes _ _ _ _ (le-leb (at + length w) (length d) r.fits) p.stores;
 }
 
@@ -116,3 +116,13 @@ unfolding shown part
 shown_whole s start len h k =
     let e : start + len - start ≡ len = omega arith in
     rw e (pick_no _ _ _ _ (le-ltb (length s) start h) (pick_no _ _ _ _ (le-ltb (length s - start) len k) refl))
+
+-- a part of a slice, copied over a range of another
+pub copied : (d s : List ℕ) (at start len : ℕ) (new : List ℕ) → start + len ≤ length s → Room d at (part s start len) → new ≡ take (start + len - start) (drop start s)
+    → Puts d (put_mid at (at + len - at) d new) at (part s start len) (at + len)
+unfolding part splice
+copied d s at start len new l r e =
+    let f : start + len - start ≡ len = omega arith in
+    let g : at + len - at ≡ len = omega arith in
+    let h : length (take len (drop start s)) ≡ len = length_part s start len l in
+    record { next = omega arith; stores = rw (e, f, g, h, drop-drop len at d) (sym (append_assoc (take at d) (take len (drop start s)) (drop (at + len) d))) }

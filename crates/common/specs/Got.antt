@@ -1,13 +1,12 @@
 -- What reading at a place gives, and what follows it: the way in which every format of the library is defined. A reader takes the
 -- bytes, the place where it begins and the end of its region; written without them they pass through. Assumes nothing.
-use Rattle.std.specs.Prelude.{◌≡◌, ℕ, Bool, List, nat_lt}
+use Rattle.std.specs.Prelude.{◌≡◌, ℕ, Bool, List, Result, Ok, Err, nat_lt}
 use Rattle.common.specs.Choose.{pick}
 use Rattle.common.specs.Refusals.{Outcome, taken, refused}
 use Rattle.common.specs.declared.refusal.Fault.{Fault}
 use Rattle.common.specs.declared.refusal.Fault.TheVariants.{LeftOver}
 use Rattle.common.specs.declared.refusal.Slice.{Slice}
-use Rattle.common.specs.declared.number.Num.{Num}
-use Rattle.common.specs.declared.number.Num.TheVariants.{Number, Refused}
+use Rattle.common.specs.declared.reading.Bad.{Bad}
 
 infixl 20 ◌>>=◌
 -- a value and the place after it; or a fault and its place
@@ -46,10 +45,18 @@ pub record Took {A : Type 0} (x : Got A) : Type 0 where
   pub place : ℕ
   pub is : x ≡ got value place
 
--- what the code's answer says, where it reads a number
-unfoldable pub said_num : Num → Got ℕ
-said_num (Number v n) = got v n
-said_num (Refused f p) = bad f p
+-- what the code answers that reads: the value and the place after it, or the fault and its place
+abbrev pub Reading : Type 0 → Type 0
+Reading A = Result (A × ℕ) Bad
+
+-- what it says: the value with the place after it, the place alone, or the fault
+unfoldable pub said : {A : Type 0} → Reading A → Got A
+said (Ok x) = got x.0 x.1
+said (Err e) = bad e.fault e.place
+
+unfoldable pub said_place : Result ℕ Bad → Got (Unit {0})
+said_place (Ok n) = got tt n
+said_place (Err e) = bad e.fault e.place
 
 -- what a call answers that reads a slice: the value, or the refusal in that slice
 unfoldable pub within : {A : Type 0} → Slice → Got A → Outcome A

@@ -1,5 +1,6 @@
 -- What a refusal says: document 01's number of each fault, and the number of each slice in the C interface. Assumes nothing.
-use Rattle.std.specs.Prelude.{ℕ}
+use Rattle.std.specs.Prelude.{ℕ, Result, Ok, Err}
+use Rattle.common.specs.declared.reading.Bad.{Bad}
 use Rattle.common.specs.declared.refusal.Fault.{Fault}
 use Rattle.common.specs.declared.refusal.Fault.TheVariants.{OverLimit, PastEnd, LeftOver, BadFlags, OutOfRange, OutOfTurn, NotCarried, TooMany, Repeated, BadRecord, Differs, RangeMarker, NoRoom}
 use Rattle.common.specs.declared.refusal.Refusal.{Refusal}
@@ -42,3 +43,15 @@ pub data Outcome (A : Type 0) : Type 0 where
 -- the outcome that a refusal says
 abbrev pub said_refusal : {A : Type 0} → Refusal → Outcome A
 said_refusal r = refused r.fault r.slice r.place
+
+-- what the code's answer says
+unfoldable pub outcome : {A : Type 0} → Result A Refusal → Outcome A
+outcome (Ok a) = taken a
+outcome (Err r) = said_refusal r
+
+-- a fault at a place of the slice that is read; a fault of a slice at a place
+abbrev pub bad_at : Fault → ℕ → Bad
+bad_at f p = record { fault = f; place = p }
+
+abbrev pub refusal_at : Fault → Slice → ℕ → Refusal
+refusal_at f z p = record { fault = f; slice = z; place = p }

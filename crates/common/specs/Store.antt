@@ -1,8 +1,6 @@
 -- Bytes that are stored into a slice, and parts of one. Assumes nothing.
-use Rattle.std.specs.Prelude.{◌≡◌, ℕ, ◌+◌, ◌-◌, ◌≤◌, List, [], ◌++◌, length, take, drop, nat_lt, nat_le}
+use Rattle.std.specs.Prelude.{◌≡◌, ℕ, ◌+◌, ◌-◌, ◌≤◌, List, Option, Some, None, [], ◌++◌, length, take, drop, nat_lt, nat_le}
 use Rattle.common.specs.Choose.{pick}
-use Rattle.common.specs.declared.number.Stored.{Stored}
-use Rattle.common.specs.declared.number.Stored.TheVariants.{At, Full}
 
 -- d with w in the place of as many elements from place at on
 unfoldable pub splice : List ℕ → ℕ → List ℕ → List ℕ
@@ -30,10 +28,10 @@ unfoldable pub stored : List ℕ → ℕ → List ℕ → List ℕ
 stored d at w = pick (nat_le (at + length w) (length d)) (splice d at w) d
 
 -- what storing w at place at of d answers: the place after it, or that it does not fit
-unfoldable pub storing : List ℕ → ℕ → List ℕ → Stored
-storing d at w = pick (nat_le (at + length w) (length d)) (At (at + length w)) Full
+unfoldable pub storing : List ℕ → ℕ → List ℕ → Option ℕ
+storing d at w = pick (nat_le (at + length w) (length d)) (Some (at + length w)) None
 
 -- w is stored at place at of d, which becomes d', and r is the answer; or it does not fit, and d' is d
-pub record Stores (d d' : List ℕ) (at : ℕ) (w : List ℕ) (r : Stored) : Type 0 where
+pub record Stores (d d' : List ℕ) (at : ℕ) (w : List ℕ) (r : Option ℕ) : Type 0 where
   pub answer : r ≡ storing d at w
   pub buffer : d' ≡ stored d at w

@@ -2,6 +2,6 @@
 #![tactic(auto)]
 
 pub mod refusal; // refusal.rt: faults and slices with document 01's numbers
-pub mod number; // number.rt: what calls answer that read a number or store bytes
+pub mod reading; // reading.rt: what calls answer that read at a place
 pub mod times; // times.rt: base times
 pub mod part; // part.rt: parts of a slice, handed out and copied

@@ -8,11 +8,7 @@ pub fn put_part(d: &mut [u8], at: usize, s: &[u8], start: usize, len: usize) -> 
     requires { (start + len ≤ length s.now) × Room d.old at (part s.now start len) }
     ensures { Puts d.old d.new at (part s.now start len) result }
 {
-    let mut i: usize = 0;
-    while i < len {
-        d[at + i] = s[start + i];
-        i += 1;
-    }
+    d[at..at + len].copy_from_slice(&s[start..start + len]);
     at + len
 }
 

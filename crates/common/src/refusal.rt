@@ -1,9 +1,9 @@
 // What a refusal says: a fault, the slice that it is about, and a place in that slice.
 ghost use Rattle.std.specs.Prelude.{◌≡◌};
-ghost use Rattle.common.specs.Refusals.{fault_number, slice_number};
+ghost use Rattle.common.specs.Refusals.{fault_number, slice_number, refusal_at};
 
 // The faults of document 01, "Numbers given back", in the order of their numbers.
-#[derive(Clone, Copy)]
+#[derive(Clone, Copy, Debug, PartialEq, Eq)]
 pub enum Fault {
     OverLimit, // 1: a slice over the limit
     PastEnd, // 2: a field or region passes the end of its region
@@ -21,7 +21,7 @@ pub enum Fault {
 }
 
 // The slices that calls are lent. A merge has two of some, and says beside the refusal which.
-#[derive(Clone, Copy)]
+#[derive(Clone, Copy, Debug, PartialEq, Eq)]
 pub enum Slice {
     Statistics,
     Scylla,
@@ -35,49 +35,65 @@ pub enum Slice {
 }
 
 // A refusal. The place is the first byte of the field or record concerned, but for NoRoom the length needed.
-#[derive(Clone, Copy)]
+#[derive(Clone, Copy, Debug, PartialEq, Eq)]
 pub struct Refusal {
     pub fault: Fault,
     pub slice: Slice,
     pub place: usize,
 }
 
+impl Fault {
+    // The refusal of a slice for the fault.
+    // Internal: for the crates above.
+    pub fn of(self, slice: Slice, place: usize) -> Refusal
+        ensures { result ≡ refusal_at self slice place }
+    {
+        Refusal {
+            fault: self,
+            slice,
+            place,
+        }
+    }
+}
+
 // Document 01's number of a fault.
-// Internal: for the crates above.
-pub fn fault_number(fault: Fault) -> u8
-    ensures { result ≡ fault_number fault }
-{
-    match fault {
-        Fault::OverLimit => 1,
-        Fault::PastEnd => 2,
-        Fault::LeftOver => 3,
-        Fault::BadFlags => 4,
-        Fault::OutOfRange => 5,
-        Fault::OutOfTurn => 6,
-        Fault::NotCarried => 7,
-        Fault::TooMany => 8,
-        Fault::Repeated => 9,
-        Fault::BadRecord => 10,
-        Fault::Differs => 11,
-        Fault::RangeMarker => 12,
-        Fault::NoRoom => 13,
+impl From<Fault> for u8 {
+    ghost from_gives = { λ f n. n ≡ fault_number f };
+
+    fn from(fault: Fault) -> u8 {
+        match fault {
+            Fault::OverLimit => 1,
+            Fault::PastEnd => 2,
+            Fault::LeftOver => 3,
+            Fault::BadFlags => 4,
+            Fault::OutOfRange => 5,
+            Fault::OutOfTurn => 6,
+            Fault::NotCarried => 7,
+            Fault::TooMany => 8,
+            Fault::Repeated => 9,
+            Fault::BadRecord => 10,
+            Fault::Differs => 11,
+            Fault::RangeMarker => 12,
+            Fault::NoRoom => 13,
+        }
     }
 }
 
 // The number of a slice in the C interface.
-// Internal: for the crates above.
-pub fn slice_number(slice: Slice) -> u8
-    ensures { result ≡ slice_number slice }
-{
-    match slice {
-        Slice::Statistics => 1,
-        Slice::Scylla => 2,
-        Slice::Data => 3,
-        Slice::Schema => 4,
-        Slice::Records => 5,
-        Slice::Bytes => 6,
-        Slice::Output => 7,
-        Slice::Bases => 8,
-        Slice::State => 9,
+impl From<Slice> for u8 {
+    ghost from_gives = { λ z n. n ≡ slice_number z };
+
+    fn from(slice: Slice) -> u8 {
+        match slice {
+            Slice::Statistics => 1,
+            Slice::Scylla => 2,
+            Slice::Data => 3,
+            Slice::Schema => 4,
+            Slice::Records => 5,
+            Slice::Bytes => 6,
+            Slice::Output => 7,
+            Slice::Bases => 8,
+            Slice::State => 9,
+        }
     }
 }

@@ -2,17 +2,13 @@
 -- then timestamp, local deletion time, TTL and value, each where the flags leave it. Assumes nothing.
 use Rattle.std.specs.Prelude.{ℕ, ◌/◌, ◌%◌, Bool, true, ltb, eqb}
 use Rattle.common.specs.Choose.{pick}
-use Rattle.common.specs.Got.{Got, got, bad, on, Reader, ◌>>=◌, ret, when}
+use Rattle.common.specs.Got.{got, bad, on, Reader, ◌>>=◌, ret, when}
 use Rattle.common.specs.declared.refusal.Fault.TheVariants.{BadFlags}
 use Rattle.data_field.specs.Fields.{span, byte_at, timestamp_at, local_at, ttl_at, value_at}
 use Rattle.common.specs.declared.times.Bases.{Bases}
 use Rattle.data_field.specs.declared.fields.Span.{Span}
 use Rattle.data_cell.specs.declared.cells.Times.{Times}
 use Rattle.data_cell.specs.declared.cells.Cell.{Cell}
-use Rattle.data_cell.specs.declared.cells.Lasting.{Lasting}
-use Rattle.data_cell.specs.declared.cells.Lasting.TheVariants.{Till, Refused as lasting-refused}
-use Rattle.data_cell.specs.declared.cells.Found.{Found}
-use Rattle.data_cell.specs.declared.cells.Found.TheVariants.{Read, Refused}
 
 -- kind 0 a value, 1 an expiring one, 2 a tombstone
 abbrev pub cell : ℕ → ℕ → ℕ → ℕ → Span → Cell
@@ -72,20 +68,11 @@ unfoldable pub time_at : Bases → Times → ℕ → Reader ℕ
 time_at b row f = when (eqb (f / 8 % 2) 1) (ret row.timestamp) (timestamp_at b)
 
 -- kind, local deletion time and TTL of a cell that is no tombstone; an expiry of its own
-unfoldable pub own_at : Bases → Reader (ℕ × (ℕ × ℕ))
-own_at b = local_at b >>= (λ x. ttl_at b >>= (λ y. ret (1, (x, y))))
+unfoldable pub own_at : Bases → Reader (ℕ × ℕ × ℕ)
+own_at b = local_at b >>= (λ x. ttl_at b >>= (λ y. ret (1, x, y)))
 
-unfoldable pub lasting_at : Bases → Times → ℕ → Reader (ℕ × (ℕ × ℕ))
+unfoldable pub lasting_at : Bases → Times → ℕ → Reader (ℕ × ℕ × ℕ)
 lasting_at b row f =
     when (eqb (f / 2 % 2) 1)
-    (when (eqb (f / 16 % 2) 1) (ret (1, (row.local, row.ttl))) (own_at b))
-    (ret (0, (0, 0)))
-
--- what the code's answers say
-unfoldable pub said_lasting : Lasting → Got (ℕ × (ℕ × ℕ))
-said_lasting (Till kind local ttl n) = got (kind, (local, ttl)) n
-said_lasting (lasting-refused f p) = bad f p
-
-unfoldable pub said_found : Found → Got Cell
-said_found (Read c n) = got c n
-said_found (Refused f p) = bad f p
+    (when (eqb (f / 16 % 2) 1) (ret (1, row.local, row.ttl)) (own_at b))
+    (ret (0, 0, 0))

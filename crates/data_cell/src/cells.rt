@@ -1,13 +1,13 @@
 // One cell.
+ghost use Rattle.common.specs.Got.{said};
 ghost use Rattle.std.specs.Prelude.{◌≡◌};
-ghost use Rattle.common.specs.Got.{said_num};
-ghost use Rattle.data_cell.specs.Cells.{bad_flags, flags_at, last_at, own_at, lasting_at, content_at, time_at, timed_at, cell_at, said_lasting, said_found};
+ghost use Rattle.data_cell.specs.Cells.{bad_flags, flags_at, last_at, own_at, lasting_at, content_at, time_at, timed_at, cell_at};
 
-use common::number::Num;
+use common::reading::Reading;
 use common::refusal::Fault;
 use common::times::Bases;
 use data_field::fields;
-use data_field::fields::{Part, Span};
+use data_field::fields::Span;
 
 // What a row's liveness gives its cells: 1 where it has a timestamp, else 0, and it plus 2^63; 1 where it expires, else 0, its
 // local deletion time and TTL.
@@ -28,28 +28,6 @@ pub struct Cell {
     pub local: u64,
     pub ttl: u64,
     pub value: Span,
-}
-
-#[derive(Clone, Copy)]
-enum Lasting {
-    // The kind, local deletion time and TTL of a cell that is no tombstone, and the place after them.
-    Till {
-        kind: u8,
-        local: u64,
-        ttl: u64,
-        next: usize,
-    },
-    Refused {
-        fault: Fault,
-        place: usize,
-    },
-}
-
-#[derive(Clone, Copy)]
-pub enum Found {
-    // The cell, and the place after it.
-    Read { cell: Cell, next: usize },
-    Refused { fault: Fault, place: usize },
 }
 
 // Whether flags are refused in a row with or without timestamp and expiry.
@@ -75,21 +53,14 @@ fn bad_flags(timed: u8, expires: u8, f: u64) -> bool
 }
 
 // The flags.
-fn read_flags(s: &[u8], at: usize, end: usize, row: Times) -> Num
-    ensures { said_num result ≡ flags_at row s.now at end }
+fn read_flags(s: &[u8], at: usize, end: usize, row: Times) -> Reading<u64>
+    ensures { said result ≡ flags_at row s.now at end }
 {
-    match fields::read_byte(s, at, end) {
-        Num::Number { value, next } => {
-            if bad_flags(row.timed, row.expires, value) {
-                return Num::Refused {
-                    fault: Fault::BadFlags,
-                    place: at,
-                };
-            }
-            Num::Number { value, next }
-        }
-        Num::Refused { fault, place } => Num::Refused { fault, place },
+    let (value, next) = fields::read_byte(s, at, end)?;
+    if bad_flags(row.timed, row.expires, value) {
+        return Err(Fault::BadFlags.at(at));
     }
+    Ok((value, next))
 }
 
 // The value, last.
@@ -103,40 +74,26 @@ fn read_last(
     timestamp: u64,
     local: u64,
     ttl: u64,
-) -> Found
-    ensures { said_found result ≡ last_at width f kind timestamp local ttl s.now at end }
+) -> Reading<Cell>
+    ensures { said result ≡ last_at width f kind timestamp local ttl s.now at end }
 {
     if f / 4 % 2 == 1 {
-        return Found::Read {
-            cell: Cell {
+        return Ok((
+            Cell {
                 kind,
                 timestamp,
                 local,
                 ttl,
                 value: Span { start: 0, len: 0 },
             },
-            next: at,
-        };
+            at,
+        ));
     }
     // As read_value does, but small enough to be compiled into read_cell.
     if width == 255 {
-        return match fields::read_variable(s, at, end) {
-            Part::Lies { value, next } => Found::Read {
-                cell: Cell {
-                    kind,
-                    timestamp,
-                    local,
-                    ttl,
-                    value,
-                },
-                next,
-            },
-            Part::Refused { fault, place } => Found::Refused { fault, place },
-        };
-    }
-    match fields::read_fixed(s, at, end, width) {
-        Part::Lies { value, next } => Found::Read {
-            cell: Cell {
+        let (value, next) = fields::read_variable(s, at, end)?;
+        return Ok((
+            Cell {
                 kind,
                 timestamp,
                 local,
@@ -144,53 +101,48 @@ fn read_last(
                 value,
             },
             next,
-        },
-        Part::Refused { fault, place } => Found::Refused { fault, place },
+        ));
     }
+    let (value, next) = fields::read_fixed(s, at, end, width)?;
+    Ok((
+        Cell {
+            kind,
+            timestamp,
+            local,
+            ttl,
+            value,
+        },
+        next,
+    ))
 }
 
 // The expiry of a cell that has its own.
-fn read_own(s: &[u8], at: usize, end: usize, b: Bases) -> Lasting
-    ensures { said_lasting result ≡ own_at b s.now at end }
+fn read_own(s: &[u8], at: usize, end: usize, b: Bases) -> Reading<(u8, u64, u64)>
+    ensures { said result ≡ own_at b s.now at end }
 {
-    match fields::read_local(s, at, end, b) {
-        Num::Number { value: local, next } => match fields::read_ttl(s, next, end, b) {
-            Num::Number {
-                value: ttl,
-                next: after,
-            } => Lasting::Till {
-                kind: 1,
-                local,
-                ttl,
-                next: after,
-            },
-            Num::Refused { fault, place } => Lasting::Refused { fault, place },
-        },
-        Num::Refused { fault, place } => Lasting::Refused { fault, place },
-    }
+    let (local, next) = fields::read_local(s, at, end, b)?;
+    let (ttl, after) = fields::read_ttl(s, next, end, b)?;
+    Ok(((1, local, ttl), after))
 }
 
 // The expiry of a cell that is no tombstone.
-fn read_lasting(s: &[u8], at: usize, end: usize, b: Bases, row: Times, f: u64) -> Lasting
-    ensures { said_lasting result ≡ lasting_at b row f s.now at end }
+fn read_lasting(
+    s: &[u8],
+    at: usize,
+    end: usize,
+    b: Bases,
+    row: Times,
+    f: u64,
+) -> Reading<(u8, u64, u64)>
+    ensures { said result ≡ lasting_at b row f s.now at end }
 {
     if f / 2 % 2 == 1 {
         if f / 16 % 2 == 1 {
-            return Lasting::Till {
-                kind: 1,
-                local: row.local,
-                ttl: row.ttl,
-                next: at,
-            };
+            return Ok(((1, row.local, row.ttl), at));
         }
         return read_own(s, at, end, b);
     }
-    Lasting::Till {
-        kind: 0,
-        local: 0,
-        ttl: 0,
-        next: at,
-    }
+    Ok(((0, 0, 0), at))
 }
 
 // What follows the timestamp: its parts one after the other, so that each is read at one place of the code.
@@ -203,69 +155,57 @@ fn read_content(
     row: Times,
     f: u64,
     timestamp: u64,
-) -> Found
-    ensures { said_found result ≡ content_at b row width f timestamp s.now at end }
+) -> Reading<Cell>
+    ensures { said result ≡ content_at b row width f timestamp s.now at end }
 {
     if f % 2 == 1 {
-        match fields::read_local(s, at, end, b) {
-            Num::Number { value: local, next } => {
-                return Found::Read {
-                    cell: Cell {
-                        kind: 2,
-                        timestamp,
-                        local,
-                        ttl: 0,
-                        value: Span { start: 0, len: 0 },
-                    },
-                    next,
-                };
-            }
-            Num::Refused { fault, place } => {
-                return Found::Refused { fault, place };
-            }
-        }
-    }
-    match read_lasting(s, at, end, b, row, f) {
-        Lasting::Till {
-            kind,
-            local,
-            ttl,
+        let (local, next) = fields::read_local(s, at, end, b)?;
+        return Ok((
+            Cell {
+                kind: 2,
+                timestamp,
+                local,
+                ttl: 0,
+                value: Span { start: 0, len: 0 },
+            },
             next,
-        } => read_last(s, next, end, width, f, kind, timestamp, local, ttl),
-        Lasting::Refused { fault, place } => Found::Refused { fault, place },
+        ));
     }
+    let ((kind, local, ttl), next) = read_lasting(s, at, end, b, row, f)?;
+    read_last(s, next, end, width, f, kind, timestamp, local, ttl)
 }
 
 // The timestamp: the row's, or the cell's own.
-fn read_time(s: &[u8], at: usize, end: usize, b: Bases, row: Times, f: u64) -> Num
-    ensures { said_num result ≡ time_at b row f s.now at end }
+fn read_time(s: &[u8], at: usize, end: usize, b: Bases, row: Times, f: u64) -> Reading<u64>
+    ensures { said result ≡ time_at b row f s.now at end }
 {
     if f / 8 % 2 == 1 {
-        return Num::Number {
-            value: row.timestamp,
-            next: at,
-        };
+        return Ok((row.timestamp, at));
     }
     fields::read_timestamp(s, at, end, b)
 }
 
 // What follows the flags.
-fn read_timed(s: &[u8], at: usize, end: usize, width: u8, b: Bases, row: Times, f: u64) -> Found
-    ensures { said_found result ≡ timed_at b row width f s.now at end }
+fn read_timed(
+    s: &[u8],
+    at: usize,
+    end: usize,
+    width: u8,
+    b: Bases,
+    row: Times,
+    f: u64,
+) -> Reading<Cell>
+    ensures { said result ≡ timed_at b row width f s.now at end }
 {
-    match read_time(s, at, end, b, row, f) {
-        Num::Number { value, next } => read_content(s, next, end, width, b, row, f, value),
-        Num::Refused { fault, place } => Found::Refused { fault, place },
-    }
+    let (value, next) = read_time(s, at, end, b, row, f)?;
+    read_content(s, next, end, width, b, row, f, value)
 }
 
 // The cell at at, before end, of a column of the width, in a row of these times.
 // Internal: for the crates above.
-pub fn read_cell(s: &[u8], at: usize, end: usize, width: u8, b: Bases, row: Times) -> Found
-    ensures { said_found result ≡ cell_at b row width s.now at end }
+pub fn read_cell(s: &[u8], at: usize, end: usize, width: u8, b: Bases, row: Times) -> Reading<Cell>
+    ensures { said result ≡ cell_at b row width s.now at end }
 {
-    match read_flags(s, at, end, row) {
-        Num::Number { value, next } => read_timed(s, next, end, width, b, row, value),
-        Num::Refused { fault, place } => Found::Refused { fault, place },
-    }
+    let (value, next) = read_flags(s, at, end, row)?;
+    read_timed(s, next, end, width, b, row, value)
 }

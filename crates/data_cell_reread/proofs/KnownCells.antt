@@ -44,17 +44,17 @@ module _ (b : Bases) (row : Times) (w f time : ℕ) (s : List ℕ) (at end : ℕ
   content_local e = took_first _ _ (took_yes _ _ _ e t)
 
   module _ (e : eqb (f % 2) 1 ≡ false) where
-    by_parts : Took (on (lasting_at b row f s at end) (λ x n. last_at w f x.0 time x.1.0 x.1.1 s n end))
+    by_parts : Took (on (lasting_at b row f s at end) (λ x n. last_at w f x.0 time x.1 x.2 s n end))
     by_parts = rw (← content_is b row w f s at end _ time e refl) at t
 
     pub content_lasting : Took (lasting_at b row f s at end)
     content_lasting = took_first _ _ by_parts
 
-    pub content_last : (kind local ttl n : ℕ) → got (kind, (local, ttl)) n ≡ lasting_at b row f s at end → Took (last_at w f kind time local ttl s n end)
-    content_last kind local ttl n g = took_then _ _ (kind, (local, ttl)) n g by_parts
+    pub content_last : (x : ℕ × ℕ × ℕ) (n : ℕ) → got x n ≡ lasting_at b row f s at end → Took (last_at w f x.0 time x.1 x.2 s n end)
+    content_last x n g = took_then _ _ x n g by_parts
 
-    pub content_by : (kind local ttl n : ℕ) → got (kind, (local, ttl)) n ≡ lasting_at b row f s at end → (q : Got _) → q ≡ last_at w f kind time local ttl s n end → q ≡ content_at b row w f time s at end
-    content_by kind local ttl n g q h = content_is b row w f s at end q time e (on_again _ _ _ (kind, (local, ttl)) n g h)
+    pub content_by : (x : ℕ × ℕ × ℕ) (n : ℕ) → got x n ≡ lasting_at b row f s at end → (q : Got _) → q ≡ last_at w f x.0 time x.1 x.2 s n end → q ≡ content_at b row w f time s at end
+    content_by x n g q h = content_is b row w f s at end q time e (on_again _ _ _ x n g h)
 
 -- ---- the whole cell
 module _ (b : Bases) (row : Times) (w : ℕ) (s : List ℕ) (at end : ℕ) (t : Took (cell_at b row w s at end)) where

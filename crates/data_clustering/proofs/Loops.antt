@@ -1,4 +1,6 @@
 -- The bits of a header one column after the other, and the values that they leave. Assumes nothing.
+use Rattle.std.proofs.Common.{Continue, Break, Ok}
+use Rattle.std.specs.Result.{result_from_control_flow}
 use mathlib.Core.Path.{◌≡◌, refl, sym, ap, ◌∙◌}
 use mathlib.Core.Bool.{true, false}
 use mathlib.Core.List.{List, ◌∷◌}
@@ -9,45 +11,41 @@ use lib.Dec.{ltb, eqb}
 use lib.ListN.{length, get_or}
 use mir.Syntax.{w64}
 use mir.Val.{Fits}
-use Rattle.common.specs.Got.{Got, got, bad, on, said_num}
-use Rattle.common.specs.declared.refusal.Fault.{Fault}
-use Rattle.common.specs.declared.number.Num.{Num}
+use Rattle.common.specs.Got.{Got, got, bad, on, Reading, said, said_place}
 use Rattle.common.specs.Choose.{pick}
 use Rattle.common.proofs.Choose.{pick_yes, pick_no}
-use Rattle.data_field.specs.Fields.{said_part}
 use Rattle.data_field.specs.declared.fields.Span.{Span}
-use Rattle.data_field.specs.declared.fields.Part.{Part}
-use Rattle.data_field.specs.declared.fields.Part.TheVariants.{Lies, Refused as part-refused}
-use Rattle.data_field.proofs.Said.{on_part, on_part_bad}
-use Rattle.data_clustering.specs.Prefixes.{bad_header, header_at, clustering_at, values_at, widths_at, skipped, said_skipped}
-use Rattle.data_clustering.specs.declared.prefixes.Skipped.TheVariants.{To, Refused as skip-refused}
+use Rattle.common.proofs.Said.{on_tried, on_failed}
+use Rattle.data_clustering.specs.Prefixes.{bad_header, header_at, clustering_at, values_at, widths_at, skipped}
 
--- h is what is left of a header for the columns that are left
-pub record Heading (k header left h : ℕ) : Type 0 where
-  pub rest : bad_header left h ≡ bad_header k header
+-- h is what is left of a header behind i columns
+pub record Heading (k header i h : ℕ) : Type 0 where
+  pub rest : bad_header (k - i) h ≡ bad_header k header
 
 module _ (k header : ℕ) where
-  pub heading_none : Heading k header k header
-  heading_none = record { rest = refl }
+  pub heading_none : Heading k header 0 header
+  heading_none =
+      let e : k - 0 ≡ k = omega arith in
+      record { rest = rw e refl }
 
-  module _ (left h : ℕ) (i : Heading k header left h) where
-    pub heading_end : left ≤ 0 → ltb 0 h ≡ bad_header k header
+  module _ (i h : ℕ) (a : Heading k header i h) where
+    pub heading_end : k ≤ i → ltb 0 h ≡ bad_header k header
     unfolding bad_header
     heading_end l =
-        let e : left ≡ 0 = omega arith in
-        rw e at i.rest
+        let e : k - i ≡ 0 = omega arith in
+        rw e at a.rest
 
-    module _ (l : 0 < left) where
-      next : left ≡ suc (left - 1)
+    module _ (l : i < k) where
+      next : k - i ≡ suc (k - (i + 1))
       next = omega arith
 
       pub heading_null : h / 2 % 2 ≡ 1 → true ≡ bad_header k header
       unfolding bad_header
-      heading_null e = pick_yes _ _ _ _ (eq-eqb _ _ e) refl ∙ ap (λ (x : ℕ). bad_header x h) (sym next) ∙ i.rest
+      heading_null e = pick_yes _ _ _ _ (eq-eqb _ _ e) refl ∙ ap (λ (x : ℕ). bad_header x h) (sym next) ∙ a.rest
 
-      pub heading_more : eqb (h / 2 % 2) 1 ≡ false → Heading k header (left - 1) (h / 4)
+      pub heading_more : eqb (h / 2 % 2) 1 ≡ false → Heading k header (i + 1) (h / 4)
       unfolding bad_header
-      heading_more e = record { rest = pick_no _ _ _ _ e refl ∙ ap (λ (x : ℕ). bad_header x h) (sym next) ∙ i.rest }
+      heading_more e = record { rest = pick_no _ _ _ _ e refl ∙ ap (λ (x : ℕ). bad_header x h) (sym next) ∙ a.rest }
 
 -- a header without bits is never refused
 pub heading_zero : (k header : ℕ) → header ≡ 0 → false ≡ bad_header k header
@@ -64,7 +62,7 @@ widths_count c at zero = refl
 widths_count c at (suc k) = ap suc (widths_count c (at + 16) k)
 
 -- the header of the columns of a schema
-pub header_of_lem : (r : Num) (c : List ℕ) (record₀ k : ℕ) (s : List ℕ) (at end : ℕ) → said_num r ≡ header_at k s at end → said_num r ≡ header_at (length (widths_at c record₀ k)) s at end
+pub header_of_lem : (r : Reading ℕ) (c : List ℕ) (record₀ k : ℕ) (s : List ℕ) (at end : ℕ) → said r ≡ header_at k s at end → said r ≡ header_at (length (widths_at c record₀ k)) s at end
 header_of_lem r c record₀ k s at end e = rw (widths_count c record₀ k) e
 
 skipped_cons : (v : Span) (x : Got (List Span)) → skipped x ≡ skipped (on x (λ vs m. got (v ∷ vs) m))
@@ -72,48 +70,51 @@ unfolding skipped on
 skipped_cons v (got vs m) = refl
 skipped_cons v (bad f p) = refl
 
--- the columns that are left, from the record at column on; their bits h; their values from p on; z is what skipping all gives
-pub record Skipping (z : Got Unit) (c : List ℕ) (s : List ℕ) (end column left h p : ℕ) : Type 0 where
-  pub fits : column + 16 * left ≤ length c
-  pub rest : skipped (values_at (widths_at c column left) h s p end) ≡ z
+-- behind i of `count` columns, those from the record at column on are left; their bits h; their values from p on; z is what skipping all gives
+pub record Skipping (z : Got Unit) (c : List ℕ) (s : List ℕ) (end column count i h p : ℕ) : Type 0 where
+  pub fits : column + 16 * (count - i) ≤ length c
+  pub rest : skipped (values_at (widths_at c column (count - i)) h s p end) ≡ z
 
 module _ (c : List ℕ) (s : List ℕ) (at end column count header : ℕ) where
-  pub skipping_none : column + 16 * count ≤ length c → Skipping (skipped (values_at (widths_at c column count) header s at end)) c s end column count header at
-  skipping_none h = record { fits = h; rest = refl }
+  pub skipping_none : column + 16 * count ≤ length c → Skipping (skipped (values_at (widths_at c column count) header s at end)) c s end column count 0 header at
+  skipping_none h =
+      let e : count - 0 ≡ count = omega arith in
+      record { fits = omega arith; rest = rw e refl }
 
-module _ (z : Got Unit) (c : List ℕ) (s : List ℕ) (end column left h p : ℕ) (i : Skipping z c s end column left h p) where
-  pub skipping_end : left ≤ 0 → said_skipped (To p) ≡ z
-  unfolding said_skipped skipped values_at widths_at
+module _ (z : Got Unit) (c : List ℕ) (s : List ℕ) (end column count i h p : ℕ) (a : Skipping z c s end column count i h p) where
+  pub skipping_end : count ≤ i → said_place (Ok p) ≡ z
+  unfolding said_place skipped values_at widths_at
   skipping_end l =
-      let e : left ≡ 0 = omega arith in
-      rw e at i.rest
+      let e : count - i ≡ 0 = omega arith in
+      rw e at a.rest
 
-  module _ (l : 0 < left) where
-    more : left ≡ suc (left - 1)
+  module _ (l : i < count) where
+    more : count - i ≡ suc (count - (i + 1))
     more = omega arith
 
     pub skipping_index : column + 3 < length c
-    skipping_index = omega (arith, i.fits)
+    skipping_index = omega (arith, a.fits)
 
     pub skipping_width : length c < 2 ^ 64 → Fits w64 (column + 3)
-    skipping_width k = record { fits = omega (arith, i.fits) }
+    skipping_width k = record { fits = omega (arith, a.fits) }
 
     pub skipping_column : length c < 2 ^ 64 → Fits w64 (column + 16)
-    skipping_column k = record { fits = omega (arith, i.fits) }
+    skipping_column k = record { fits = omega (arith, a.fits) }
 
-    from : skipped (values_at (widths_at c column (suc (left - 1))) h s p end) ≡ z
-    from = ap (λ (x : ℕ). skipped (values_at (widths_at c column x) h s p end)) (sym more) ∙ i.rest
+    from : skipped (values_at (widths_at c column (suc (count - (i + 1)))) h s p end) ≡ z
+    from = ap (λ (x : ℕ). skipped (values_at (widths_at c column x) h s p end)) (sym more) ∙ a.rest
 
-    pub skipping_more : (r : Part) (v : Span) (n : ℕ) → said_part r ≡ clustering_at (get_or c (column + 3) 0) h s p end → r ≡ Lies v n
-        → Skipping z c s end (column + 16) (left - 1) (h / 4) n
+    pub skipping_more : (r : Reading Span) (b : _) (v : Span) (n : ℕ) → said r ≡ clustering_at (get_or c (column + 3) 0) h s p end → r ≡ result_from_control_flow b
+        → b ≡ Continue (v, n) → Skipping z c s end (column + 16) count (i + 1) (h / 4) n
     unfolding values_at widths_at
-    skipping_more r v n e f = record {
-      fits = omega (arith, i.fits);
-      rest = skipped_cons v _ ∙ ap skipped (on_part _ _ r _ v n e f refl) ∙ from;
+    skipping_more r b v n e f g = record {
+      fits = omega (arith, a.fits);
+      rest = skipped_cons v _ ∙ ap skipped (on_tried _ _ r _ b (v, n) e f g refl) ∙ from;
     }
 
-    pub skipping_bad : (r : Part) (f : Fault) (x : ℕ) → said_part r ≡ clustering_at (get_or c (column + 3) 0) h s p end → r ≡ part-refused f x → said_skipped (skip-refused f x) ≡ z
-    unfolding values_at widths_at said_skipped skipped
-    skipping_bad r f x e g = ap skipped (on_part_bad {B = List Span} _ _ r _ f x e g refl) ∙ from
+    pub skipping_bad : (r : Reading Span) (b : _) (y : _) → said r ≡ clustering_at (get_or c (column + 3) 0) h s p end → r ≡ result_from_control_flow b
+        → b ≡ Break y → bad y.0.fault y.0.place ≡ z
+    unfolding values_at widths_at skipped
+    skipping_bad r b y e f g = ap skipped (on_failed {B = List Span} _ _ r _ b y e f g refl) ∙ from
 
 pub ruleset skipping = (skipping_none, skipping_end, skipping_index, skipping_width, skipping_column, skipping_more, skipping_bad)

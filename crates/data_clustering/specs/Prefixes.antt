@@ -7,10 +7,6 @@ use Rattle.common.specs.declared.refusal.Fault.TheVariants.{BadFlags}
 use Rattle.data_field.specs.Fields.{span, value_at}
 use Rattle.data_field.specs.declared.fields.Span.{Span}
 use Rattle.data_clustering.specs.declared.prefixes.Prefix.{Prefix}
-use Rattle.data_clustering.specs.declared.prefixes.Prefixed.{Prefixed}
-use Rattle.data_clustering.specs.declared.prefixes.Prefixed.TheVariants.{Read, Refused as prefix-refused}
-use Rattle.data_clustering.specs.declared.prefixes.Skipped.{Skipped}
-use Rattle.data_clustering.specs.declared.prefixes.Skipped.TheVariants.{To, Refused as skip-refused}
 
 -- "two bits a column from the lowest, empty then null; null is refused (a marker's count gives its prefix), as are bits above the
 -- columns": whether the header h of k columns is refused
@@ -49,12 +45,3 @@ prefix_at ws s at end =
 unfoldable pub widths_at : List ℕ → ℕ → ℕ → List ℕ
 widths_at c at zero = []
 widths_at c at (suc k) = get_or c (at + 3) 0 ∷ widths_at c (at + 16) k
-
--- what the code's answers say
-unfoldable pub said_skipped : Skipped → Got Unit
-said_skipped (To n) = got tt n
-said_skipped (skip-refused f p) = bad f p
-
-unfoldable pub said_prefixed : Prefixed → Got Prefix
-said_prefixed (Read x n) = got x n
-said_prefixed (prefix-refused f p) = bad f p

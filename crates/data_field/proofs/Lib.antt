@@ -1,4 +1,3 @@
--- What the code's answers say (Said), the tests of a sum (Sums), and what is read of fields (Ranges).
-pub mod Said
+-- The tests of a sum (Sums), and what is read of fields (Ranges).
 pub mod Sums
 pub mod Ranges

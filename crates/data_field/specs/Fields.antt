@@ -2,16 +2,12 @@
 -- number plus 2^63, so that -2^63 is 0, the order is the numbers' and sums are exact. Assumes nothing.
 use Rattle.std.specs.Prelude.{ℕ, ◌+◌, ◌-◌, ltb, leb, eqb, length, get_or}
 use Rattle.common.specs.Choose.{pick}
-use Rattle.common.specs.Got.{Got, got, bad, on, Reader, ◌>>=◌, ret}
+use Rattle.common.specs.Got.{got, bad, on, Reader, ◌>>=◌, ret}
 use Rattle.number_varint.specs.Varints.{varint_at}
 use Rattle.common.specs.declared.refusal.Fault.TheVariants.{PastEnd, OutOfRange}
 use Rattle.common.specs.declared.times.Bases.{Bases}
 use Rattle.data_field.specs.declared.fields.Deletion.{Deletion}
 use Rattle.data_field.specs.declared.fields.Span.{Span}
-use Rattle.data_field.specs.declared.fields.Part.{Part}
-use Rattle.data_field.specs.declared.fields.Part.TheVariants.{Lies, Refused as part-refused}
-use Rattle.data_field.specs.declared.fields.Deleted.{Deleted}
-use Rattle.data_field.specs.declared.fields.Deleted.TheVariants.{By, Refused as deleted-refused}
 
 -- a part of the slice; a value or key that is empty has no place
 abbrev pub span : ℕ → ℕ → Span
@@ -71,12 +67,3 @@ width_at w s at end =
 -- a value of a width, or (255) after its length: 2 at its own first byte where it is cut
 unfoldable pub value_at : ℕ → Reader Span
 value_at w s at end = pick (eqb w 255) (variable_at s at end) (width_at w s at end)
-
--- what the code's answers say
-unfoldable pub said_part : Part → Got Span
-said_part (Lies v n) = got v n
-said_part (part-refused f p) = bad f p
-
-unfoldable pub said_deleted : Deleted → Got Deletion
-said_deleted (By d n) = got d n
-said_deleted (deleted-refused f p) = bad f p

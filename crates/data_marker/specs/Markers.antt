@@ -1,7 +1,7 @@
 -- A marker, whole. Assumes nothing.
 use Rattle.std.specs.Prelude.{ℕ, List, length, take}
 use Rattle.common.specs.Choose.{pick}
-use Rattle.common.specs.Got.{Got, got, bad, on, Reader, ◌>>=◌, ret, when, filled}
+use Rattle.common.specs.Got.{got, bad, on, Reader, ◌>>=◌, ret, when, filled}
 use Rattle.common.specs.declared.refusal.Fault.TheVariants.{OutOfTurn}
 use Rattle.data_field.specs.Fields.{deletion_at, live}
 use Rattle.common.specs.declared.times.Bases.{Bases}
@@ -14,10 +14,6 @@ use Rattle.data_marker.specs.Kinds.{marker_flags_at, kind_at, count_at}
 use Rattle.data_turns.specs.Turns.{is_start, is_boundary}
 use Rattle.data_marker.specs.declared.markers.Deletions.{Deletions}
 use Rattle.data_marker.specs.declared.markers.Marker.{Marker}
-use Rattle.data_marker.specs.declared.markers.Bounded.{Bounded}
-use Rattle.data_marker.specs.declared.markers.Bounded.TheVariants.{By, Refused as bounded-refused}
-use Rattle.data_marker.specs.declared.markers.Found.{Found}
-use Rattle.data_marker.specs.declared.markers.Found.TheVariants.{Read, Refused as found-refused}
 
 abbrev pub marker : ℕ → ℕ → ℕ → Prefix → Deletions → Marker
 marker start kind count prefix deletions = record { start = start; kind = kind; count = count; prefix = prefix; deletions = deletions }
@@ -60,12 +56,3 @@ marker_at b ws opened s at end =
 -- the deletion of the range that is open behind a marker
 unfoldable pub open_after : ℕ → Deletions → Deletion
 open_after kind d = pick (is_start kind) d.first d.second
-
--- what the code's answers say
-unfoldable pub said_bounded : Bounded → Got Deletions
-said_bounded (By d n) = got d n
-said_bounded (bounded-refused f p) = bad f p
-
-unfoldable pub said_found : Found → Got Marker
-said_found (Read m n) = got m n
-said_found (found-refused f p) = bad f p

@@ -1,4 +1,3 @@
--- What the code's answer says (Said), what is read (Gives), and document 01's partition (Vectors).
-pub mod Said
+-- What is read (Gives), and document 01's partition (Vectors).
 pub mod Gives
 pub mod Vectors

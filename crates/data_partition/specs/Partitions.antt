@@ -9,8 +9,6 @@ use Rattle.data_field.specs.Fields.{span, deletion, live}
 use Rattle.data_field.specs.declared.fields.Deletion.{Deletion}
 use Rattle.data_field.specs.declared.fields.Span.{Span}
 use Rattle.data_partition.specs.declared.partitions.Partition.{Partition}
-use Rattle.data_partition.specs.declared.partitions.Found.{Found}
-use Rattle.data_partition.specs.declared.partitions.Found.TheVariants.{Read, Refused}
 
 -- a key of len bytes from place start on
 unfoldable pub key_of : ℕ → ℕ → Span
@@ -40,8 +38,3 @@ partition_at s at end =
     (on (deleted_at s (m + len) end) (λ d n.
     bind (key_of m len) (λ key.
     got (record { key = key; deletion = d }) n))))
-
--- what the code's answer says
-unfoldable pub said_found : Found → Got Partition
-said_found (Read x n) = got x n
-said_found (Refused f p) = bad f p

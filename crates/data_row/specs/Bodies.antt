@@ -3,7 +3,7 @@
 -- Assumes nothing.
 use Rattle.std.specs.Prelude.{ℕ, ◌-◌, ◌/◌, ◌%◌, ◌^◌, ltb, eqb}
 use Rattle.common.specs.Choose.{pick, bind}
-use Rattle.common.specs.Got.{Got, got, bad, on, Reader, ◌>>=◌, ret, when}
+use Rattle.common.specs.Got.{got, bad, on, Reader, ◌>>=◌, ret, when}
 use Rattle.number_varint.specs.Varints.{varint_at}
 use Rattle.common.specs.declared.refusal.Fault.TheVariants.{BadFlags}
 use Rattle.data_field.specs.Fields.{timestamp_at, local_at, ttl_at, deletion_at, live}
@@ -12,10 +12,6 @@ use Rattle.data_field.specs.declared.fields.Deletion.{Deletion}
 use Rattle.data_cell.specs.declared.cells.Times.{Times}
 use Rattle.data_clustering.specs.Sizes.{sizes_at}
 use Rattle.data_row.specs.declared.bodies.Body.{Body}
-use Rattle.data_row.specs.declared.bodies.Timed.{Timed}
-use Rattle.data_row.specs.declared.bodies.Timed.TheVariants.{Live, Refused as timed-refused}
-use Rattle.data_row.specs.declared.bodies.Bodied.{Bodied}
-use Rattle.data_row.specs.declared.bodies.Bodied.TheVariants.{Read, Refused as body_refused}
 
 abbrev pub times : ℕ → ℕ → ℕ → ℕ → ℕ → Times
 times timed timestamp expires local ttl = record { timed = timed; timestamp = timestamp; expires = expires; local = local; ttl = ttl }
@@ -60,12 +56,3 @@ content_at b k f stop =
 -- the body after its sizes, read within it
 unfoldable pub body_at : Bases → ℕ → ℕ → Reader Body
 body_at b k f s at end = on (sizes_at s at end) (λ stop n. content_at b k f stop s n stop)
-
--- what the code's answers say
-unfoldable pub said_timed : Timed → Got Times
-said_timed (Live x n) = got x n
-said_timed (timed-refused f p) = bad f p
-
-unfoldable pub said_bodied : Bodied → Got Body
-said_bodied (Read x n) = got x n
-said_bodied (body_refused f p) = bad f p

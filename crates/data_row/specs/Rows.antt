@@ -1,7 +1,7 @@
 -- A row, from its flags to its first cell. Assumes nothing.
 use Rattle.std.specs.Prelude.{ℕ, List, [], eqb}
 use Rattle.common.specs.Choose.{pick}
-use Rattle.common.specs.Got.{Got, got, bad, on, Reader}
+use Rattle.common.specs.Got.{got, on, Reader}
 use Rattle.common.specs.declared.times.Bases.{Bases}
 use Rattle.data_clustering.specs.Prefixes.{prefix_at}
 use Rattle.data_clustering.specs.declared.prefixes.Prefix.{Prefix}
@@ -9,8 +9,6 @@ use Rattle.data_row.specs.Flags.{row_flags_at, extended_at}
 use Rattle.data_row.specs.Bodies.{body_at}
 use Rattle.data_row.specs.declared.bodies.Body.{Body}
 use Rattle.data_row.specs.declared.rows.Row.{Row}
-use Rattle.data_row.specs.declared.rows.Found.{Found}
-use Rattle.data_row.specs.declared.rows.Found.TheVariants.{Read, Refused}
 
 abbrev pub row : ℕ → ℕ → ℕ → Prefix → Body → Row
 row start flags extended prefix body = record { start = start; flags = flags; extended = extended; prefix = prefix; body = body }
@@ -41,8 +39,3 @@ cells_in x statics regulars = pick (eqb x 1) statics regulars
 
 unfoldable pub static_in : ℕ → ℕ
 static_in x = pick (eqb x 1) 1 0
-
--- what the code's answer says
-unfoldable pub said_found : Found → Got Row
-said_found (Read r n) = got r n
-said_found (Refused f p) = bad f p

@@ -1,15 +1,15 @@
 // A row, from its flags to its first cell.
+ghost use Rattle.common.specs.Got.{said};
 ghost use Rattle.std.specs.Prelude.{◌≡◌, ◌+◌, ◌*◌, ◌≤◌, length};
 ghost use Rattle.data_clustering.specs.Prefixes.{widths_at};
-ghost use Rattle.data_row.specs.Rows.{rest_at, clustering_in, cells_in, static_in, row_at, said_found};
+ghost use Rattle.data_row.specs.Rows.{rest_at, clustering_in, cells_in, static_in, row_at};
 
-use crate::bodies::{Bodied, Body};
+use crate::bodies::Body;
 use crate::{bodies, flags};
-use common::number::Num;
-use common::refusal::Fault;
+use common::reading::Reading;
 use common::times::Bases;
 use data_clustering::prefixes;
-use data_clustering::prefixes::{Prefix, Prefixed};
+use data_clustering::prefixes::Prefix;
 
 // A row: where its flags stand, the flags, the extended byte (1 for a static row, else 0), the clustering, the body.
 #[derive(Clone, Copy)]
@@ -19,13 +19,6 @@ pub struct Row {
     pub extended: u64,
     pub prefix: Prefix,
     pub body: Body,
-}
-
-#[derive(Clone, Copy)]
-pub enum Found {
-    // The row, and the place of its first cell.
-    Read { row: Row, next: usize },
-    Refused { fault: Fault, place: usize },
 }
 
 // What follows the flags f that stand at start, and the extended byte x: `count` clustering columns, whose records stand behind the key's,
@@ -41,26 +34,22 @@ fn read_rest(
     start: usize,
     f: u64,
     x: u64,
-) -> Found
+) -> Reading<Row>
     requires { (16 + 16 * count ≤ length schema.now) × (k ≤ 63) }
-    ensures { said_found result ≡ rest_at b (widths_at schema.now 16 count) k start f x s.now at end }
+    ensures { said result ≡ rest_at b (widths_at schema.now 16 count) k start f x s.now at end }
 {
-    match prefixes::read_prefix(s, at, end, schema, 16, count) {
-        Prefixed::Read { prefix, next } => match bodies::read_body(s, next, end, b, k, f) {
-            Bodied::Read { body, next: cells } => Found::Read {
-                row: Row {
-                    start,
-                    flags: f,
-                    extended: x,
-                    prefix,
-                    body,
-                },
-                next: cells,
-            },
-            Bodied::Refused { fault, place } => Found::Refused { fault, place },
+    let (prefix, next) = prefixes::read_prefix(s, at, end, schema, 16, count)?;
+    let (body, cells) = bodies::read_body(s, next, end, b, k, f)?;
+    Ok((
+        Row {
+            start,
+            flags: f,
+            extended: x,
+            prefix,
+            body,
         },
-        Prefixed::Refused { fault, place } => Found::Refused { fault, place },
-    }
+        cells,
+    ))
 }
 
 // How many clustering columns a row with the extended byte x has.
@@ -108,25 +97,14 @@ pub fn read_row(
     regulars: u64,
     first: u8,
     b: Bases,
-) -> Found
+) -> Reading<Row>
     requires { (16 + 16 * count ≤ length schema.now) × (statics ≤ 63) × (regulars ≤ 63) }
-    ensures { said_found result ≡ row_at b (widths_at schema.now 16 count) statics regulars first s.now at end }
+    ensures { said result ≡ row_at b (widths_at schema.now 16 count) statics regulars first s.now at end }
 {
-    match flags::read_row_flags(s, at, end) {
-        Num::Number { value: f, next } => match flags::read_extended(
-            s, next, end, f, first, statics,
-        ) {
-            Num::Number {
-                value: x,
-                next: after,
-            } => {
-                let values = clustering_of(x, count);
-                let cells = cells_of(x, statics, regulars);
-                let extended = static_of(x);
-                read_rest(s, after, end, schema, values, b, cells, at, f, extended)
-            }
-            Num::Refused { fault, place } => Found::Refused { fault, place },
-        },
-        Num::Refused { fault, place } => Found::Refused { fault, place },
-    }
+    let (f, next) = flags::read_row_flags(s, at, end)?;
+    let (x, after) = flags::read_extended(s, next, end, f, first, statics)?;
+    let values = clustering_of(x, count);
+    let cells = cells_of(x, statics, regulars);
+    let extended = static_of(x);
+    read_rest(s, after, end, schema, values, b, cells, at, f, extended)
 }

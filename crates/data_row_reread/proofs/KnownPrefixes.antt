@@ -1,4 +1,5 @@
 -- The clustering of a row that is known to stand. Assumes nothing.
+use Rattle.std.proofs.Common.{Ok, Continue}
 use mathlib.Core.Path.{◌≡◌, refl}
 use mathlib.Core.Bool.{false}
 use mathlib.Core.List.{List, ◌∷◌}
@@ -9,15 +10,14 @@ use lib.Dec.{eqb}
 use lib.ListN.{length, get_or}
 use mir.Syntax.{w64}
 use mir.Val.{Fits}
-use Rattle.common.specs.Got.{Got, got, bad, on, Took}
+use Rattle.common.specs.Got.{Got, got, bad, on, Took, said, said_place}
 use Rattle.common.proofs.Choose.{pick_no}
 use Rattle.common.proofs.Gives.{never}
 use Rattle.common.proofs.Took.{took_first, took_then, took_no, past, on_again}
 use Rattle.number_varint.specs.Varints.{varint_at}
-use Rattle.data_field.specs.Fields.{value_at, said_part}
+use Rattle.data_field.specs.Fields.{value_at}
 use Rattle.data_field.specs.declared.fields.Span.{Span}
-use Rattle.data_field.specs.declared.fields.Part.TheVariants.{Lies}
-use Rattle.data_clustering.specs.Prefixes.{header_at, clustering_at, values_at, prefix_at, widths_at, skipped, said_skipped}
+use Rattle.data_clustering.specs.Prefixes.{header_at, clustering_at, values_at, prefix_at, widths_at, skipped}
 use Rattle.data_clustering.specs.declared.prefixes.Prefix.{Prefix}
 use Rattle.data_clustering.proofs.Loops.{widths_count, Skipping, skipping_none, skipping_end, skipping_index, skipping_width, skipping_column, skipping_more}
 
@@ -41,43 +41,45 @@ unfolding skipped
 took_skipped (got a n) t = record { value = a; place = n; is = refl }
 took_skipped (bad f p) t = never t.is
 
--- the columns that are left, as in `Skipping`; their values are known to stand
-pub record Passing (z : Got Unit) (c s : List ℕ) (end column left h p : ℕ) : Type 0 where
-  pub skipping : Skipping z c s end column left h p
-  pub took : Took (values_at (widths_at c column left) h s p end)
+-- the columns that are left behind i of them, as in `Skipping`; their values are known to stand
+pub record Passing (z : Got Unit) (c s : List ℕ) (end column count i h p : ℕ) : Type 0 where
+  pub skipping : Skipping z c s end column count i h p
+  pub took : Took (values_at (widths_at c column (count - i)) h s p end)
 
 pub passing_none : (c s : List ℕ) (at end column count header : ℕ) → column + 16 * count ≤ length c → Took (values_at (widths_at c column count) header s at end)
-    → Passing (skipped (values_at (widths_at c column count) header s at end)) c s end column count header at
-passing_none c s at end column count header l t = record { skipping = skipping_none c s at end column count header l; took = t }
+    → Passing (skipped (values_at (widths_at c column count) header s at end)) c s end column count 0 header at
+passing_none c s at end column count header l t =
+    let e : count - 0 ≡ count = omega arith in
+    record { skipping = skipping_none c s at end column count header l; took = rw e t }
 
-module _ (z : Got Unit) (c s : List ℕ) (end column left h p : ℕ) (i : Passing z c s end column left h p) where
-  pub passing_end : left ≤ 0 → got tt p ≡ z
-  unfolding said_skipped
-  passing_end l = skipping_end z c s end column left h p i.skipping l
+module _ (z : Got Unit) (c s : List ℕ) (end column count i h p : ℕ) (a : Passing z c s end column count i h p) where
+  pub passing_end : count ≤ i → got tt p ≡ z
+  unfolding said_place
+  passing_end l = skipping_end z c s end column count i h p a.skipping l
 
-  module _ (l : 0 < left) where
+  module _ (l : i < count) where
     pub passing_index : column + 3 < length c
-    passing_index = skipping_index z c s end column left h p i.skipping l
+    passing_index = skipping_index z c s end column count i h p a.skipping l
 
     pub passing_width : length c < 2 ^ 64 → Fits w64 (column + 3)
-    passing_width = skipping_width z c s end column left h p i.skipping l
+    passing_width = skipping_width z c s end column count i h p a.skipping l
 
     pub passing_column : length c < 2 ^ 64 → Fits w64 (column + 16)
-    passing_column = skipping_column z c s end column left h p i.skipping l
+    passing_column = skipping_column z c s end column count i h p a.skipping l
 
-    next : Took (on (clustering_at (get_or c (column + 3) 0) h s p end) (λ v m. on (values_at (widths_at c (column + 16) (left - 1)) (h / 4) s m end) (λ vs n. got (v ∷ vs) n)))
+    next : Took (on (clustering_at (get_or c (column + 3) 0) h s p end) (λ v m. on (values_at (widths_at c (column + 16) (count - (i + 1))) (h / 4) s m end) (λ vs n. got (v ∷ vs) n)))
     unfolding values_at widths_at
     next =
-        let e : left ≡ suc (left - 1) = omega arith in
-        rw e at i.took
+        let e : count - i ≡ suc (count - (i + 1)) = omega arith in
+        rw e at a.took
 
     pub passing_value : Took (clustering_at (get_or c (column + 3) 0) h s p end)
     passing_value = took_first _ _ next
 
-    pub passing_more : (v : Span) (n : ℕ) → got v n ≡ clustering_at (get_or c (column + 3) 0) h s p end → Passing z c s end (column + 16) (left - 1) (h / 4) n
-    unfolding said_part
+    pub passing_more : (v : Span) (n : ℕ) → got v n ≡ clustering_at (get_or c (column + 3) 0) h s p end → Passing z c s end (column + 16) count (i + 1) (h / 4) n
+    unfolding said
     passing_more v n e = record {
-      skipping = skipping_more z c s end column left h p i.skipping l (Lies v n) v n e refl;
+      skipping = skipping_more z c s end column count i h p a.skipping l (Ok (v, n)) (Continue (v, n)) v n e refl refl;
       took = took_first _ _ (took_then _ _ v n e next);
     }
 

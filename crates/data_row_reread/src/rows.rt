@@ -6,28 +6,20 @@ ghost use Rattle.data_row.specs.Flags.{extended_at};
 ghost use Rattle.data_row.specs.Rows.{rest_at, row_at};
 
 use crate::{bodies, prefixes};
-use common::number::Known;
 use common::times::Bases;
 use data_cell_reread::fields;
 use data_row::rows;
 use data_row::rows::Row;
 
-// A row, and the place of its first cell.
-#[derive(Clone, Copy)]
-pub struct KnownRow {
-    pub row: Row,
-    pub next: usize,
-}
-
 // The extended byte that follows the flags f, 0 where there is none: 1 for a static row.
-fn known_extended(s: &[u8], at: usize, end: usize, f: u64, first: u8, statics: u64) -> Known
+fn known_extended(s: &[u8], at: usize, end: usize, f: u64, first: u8, statics: u64) -> (u64, usize)
     requires { Took (extended_at f first statics s.now at end) }
-    ensures { got result.value result.next ≡ extended_at f first statics s.now at end }
+    ensures { got result.0 result.1 ≡ extended_at f first statics s.now at end }
 {
     if f / 128 % 2 == 1 {
         return fields::known_byte(s, at, end);
     }
-    Known { value: 0, next: at }
+    (0, at)
 }
 
 // What follows the flags f that stand at start, and the extended byte x: `count` clustering columns, whose records stand behind the key's,
@@ -43,24 +35,22 @@ fn known_rest(
     start: usize,
     f: u64,
     x: u64,
-) -> KnownRow
+) -> (Row, usize)
     requires { (16 + 16 * count ≤ length schema.now) × (k ≤ 63) × Took (rest_at b (widths_at schema.now 16 count) k start f x s.now at end) }
-    ensures { got result.row result.next ≡ rest_at b (widths_at schema.now 16 count) k start f x s.now at end }
+    ensures { got result.0 result.1 ≡ rest_at b (widths_at schema.now 16 count) k start f x s.now at end }
 {
-    let clustering = prefixes::known_prefix(s, at, end, schema, 16, count);
-    let content = bodies::known_body(s, clustering.next, end, b, k, f);
-    let prefix = clustering.prefix;
-    let body = content.body;
-    KnownRow {
-        row: Row {
+    let (prefix, next) = prefixes::known_prefix(s, at, end, schema, 16, count);
+    let (body, next) = bodies::known_body(s, next, end, b, k, f);
+    (
+        Row {
             start,
             flags: f,
             extended: x,
             prefix,
             body,
         },
-        next: content.next,
-    }
+        next,
+    )
 }
 
 // The row at at, before end: `count` clustering columns, whose records stand behind the key's, and so many static and regular columns;
@@ -76,25 +66,13 @@ pub fn known_row(
     regulars: u64,
     first: u8,
     b: Bases,
-) -> KnownRow
+) -> (Row, usize)
     requires { (16 + 16 * count ≤ length schema.now) × (statics ≤ 63) × (regulars ≤ 63) × Took (row_at b (widths_at schema.now 16 count) statics regulars first s.now at end) }
-    ensures { got result.row result.next ≡ row_at b (widths_at schema.now 16 count) statics regulars first s.now at end }
+    ensures { got result.0 result.1 ≡ row_at b (widths_at schema.now 16 count) statics regulars first s.now at end }
 {
-    let flags = fields::known_byte(s, at, end);
-    let extended = known_extended(s, flags.next, end, flags.value, first, statics);
-    let x = extended.value;
+    let (flags, next) = fields::known_byte(s, at, end);
+    let (x, next) = known_extended(s, next, end, flags, first, statics);
     let values = rows::clustering_of(x, count);
     let cells = rows::cells_of(x, statics, regulars);
-    known_rest(
-        s,
-        extended.next,
-        end,
-        schema,
-        values,
-        b,
-        cells,
-        at,
-        flags.value,
-        x,
-    )
+    known_rest(s, next, end, schema, values, b, cells, at, flags, x)
 }

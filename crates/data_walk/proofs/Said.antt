@@ -1,8 +1,12 @@
--- What the code's answers say, for `search`. Assumes nothing.
+-- What a step answers, and which phase it goes by, for `search`. Assumes nothing.
+use Rattle.std.proofs.Common.{Result, Ok, Err, Some, None}
+use Rattle.std.specs.Prelude.{Option as Optional}
+use Rattle.std.specs.Result.{IsErr, IsErrAnd}
+use Rattle.common.specs.declared.reading.Bad.{Bad}
 use mathlib.Core.Path.{◌≡◌, refl, sym, ap, ◌∙◌}
 use Prim.Native.Nat.{ℕ}
 use Rattle.common.specs.Got.{Got, bad}
-use Rattle.common.specs.Refusals.{Outcome, taken, refused}
+use Rattle.common.specs.Refusals.{taken, refused, bad_at, refusal_at}
 use Rattle.common.specs.declared.refusal.Fault.{Fault}
 use Rattle.common.specs.declared.refusal.Refusal.{Refusal}
 use Rattle.common.specs.declared.refusal.Slice.{Slice}
@@ -14,64 +18,57 @@ use Rattle.common.specs.Choose.{pick, bind}
 use Rattle.common.proofs.Choose.{told}
 use mathlib.Core.List.{List}
 use mathlib.Core.Option.{none, some}
-use Rattle.schema_check.specs.Records.{said_checked}
 use Rattle.schema_check.specs.declared.records.Counts.{Counts}
-use Rattle.schema_check.specs.declared.records.Checked.{Checked}
-use Rattle.schema_check.specs.declared.records.Checked.TheVariants.{Counted, Refused as Checked-Refused}
 use Rattle.data_walk.specs.Steps.{Handed, Answer, hands, handed, partition_answer, item_answer, values_answer, prefix_answer, statics_answer, is_static, is_of_cells, columns_at, columns_of, lacking, columns_answer, step_in, said_moved, said_step}
-use Rattle.call_check.specs.Tables.{after}
 use Rattle.data_items.specs.declared.Item.{Item}
 use Rattle.data_walk.specs.declared.cursors.Cursor.{Cursor}
 use Rattle.data_walk.specs.declared.cursors.Phase.{Phase}
 use Rattle.data_walk.specs.declared.cursors.Phase.TheVariants.{Partition, First, Items, Values, Prefix, Statics, Cells}
-use Rattle.data_walk.specs.declared.steps.Moved.{Moved}
-use Rattle.data_walk.specs.declared.steps.Moved.TheVariants.{Next as moved-next, Refused as moved-refused}
-use Rattle.data_walk.specs.declared.steps.Step.TheVariants.{Next, Done, Refused}
 
--- ---- Moved
-pub moved_is : (i : Item) (y : Cursor) (q : Got Handed) → hands i y ≡ q → said_moved (moved-next i y) ≡ q
+-- ---- an item and its cursor
+pub moved_is : (i : Item) (y : Cursor) (q : Got Handed) → hands i y ≡ q → said_moved (Ok (i, y)) ≡ q
 unfolding said_moved
 moved_is i y q e = e
 
-pub moved_bad : (f : Fault) (p : ℕ) (q : Got Handed) → bad f p ≡ q → said_moved (moved-refused f p) ≡ q
+pub moved_err : (y : Bad) (f : Fault) (p : ℕ) (q : Got Handed) → y ≡ bad_at f p → bad f p ≡ q → said_moved (Err y) ≡ q
 unfolding said_moved
-moved_bad f p q e = e
+moved_err y f p q d e = rw d e
 
--- ---- Step
-pub step_is : (i : Item) (y : Cursor) (q : Answer) → taken (some (i, y)) ≡ q → said_step (Next i y) ≡ q
+pub moved_again : (w : Result (Item × Cursor) Bad) (y : Bad) (q : Got Handed) → IsErr w × IsErrAnd w (λ z. z ≡ y) → bad y.fault y.place ≡ q → said_moved w ≡ q
+unfolding said_moved
+moved_again (Ok x) y q d e = absurd d.1
+moved_again (Err x) y q d e = rw d.1 e
+
+-- ---- a step
+pub step_is : (i : Item) (y : Cursor) (q : Answer) → taken (some (i, y)) ≡ q → said_step (Ok (Some (i, y))) ≡ q
 unfolding said_step
 step_is i y q e = e
 
-pub step_done : (q : Answer) → taken none ≡ q → said_step Done ≡ q
+pub step_done : (q : Answer) → taken none ≡ q → said_step (Ok None) ≡ q
 unfolding said_step
 step_done q e = e
 
-pub step_bad : (f : Fault) (z : Slice) (p : ℕ) (q : Answer) → refused f z p ≡ q → said_step (Refused (record { fault = f; slice = z; place = p })) ≡ q
+pub step_err : (r : Refusal) (f : Fault) (z : Slice) (p : ℕ) (q : Answer) → r ≡ refusal_at f z p → refused f z p ≡ q → said_step (Err r) ≡ q
 unfolding said_step
-step_bad f z p q e = e
+step_err r f z p q d e = rw d e
+
+pub step_again : (w : Result (Optional (Item × Cursor)) Refusal) (y : Refusal) (q : Answer) → IsErr w × IsErrAnd w (λ z. z ≡ y) → refused y.fault y.slice y.place ≡ q → said_step w ≡ q
+unfolding said_step
+step_again (Ok x) y q d e = absurd d.1
+step_again (Err x) y q d e = rw d.1 e
 
 -- ---- what is read, handed out
-module _ (q : Answer) (m : Moved) where
-  pub handed_next : (i : Item) (y : Cursor) → m ≡ moved-next i y → q ≡ taken (some (i, y)) → q ≡ handed (said_moved m)
+module _ (q : Answer) (m : Result (Item × Cursor) Bad) where
+  pub handed_next : (i : Item) (y : Cursor) → m ≡ Ok (i, y) → q ≡ taken (some (i, y)) → q ≡ handed (said_moved m)
   unfolding handed said_moved
   handed_next i y e g = rw e g
 
-  pub handed_bad : (f : Fault) (p : ℕ) → m ≡ moved-refused f p → q ≡ refused f Data p → q ≡ handed (said_moved m)
+  pub handed_bad : (y : Bad) → m ≡ Err y → q ≡ refused y.fault Data y.place → q ≡ handed (said_moved m)
   unfolding handed said_moved
-  handed_bad f p e g = rw e g
+  handed_bad y e g = rw e g
 
   pub handed_as : (x : Got Handed) → said_moved m ≡ x → q ≡ handed (said_moved m) → q ≡ handed x
   handed_as x e g = rw (← e) g
-
--- ---- what follows the schema's check
-module _ (q : Answer) (g : Counts → Answer) (r : Checked) (x : Outcome Counts) where
-  pub after_counted : (k : Counts) → said_checked r ≡ x → r ≡ Counted k → q ≡ g k → q ≡ after x g
-  unfolding after said_checked
-  after_counted k e f h = rw (← e, f) h
-
-pub after_refused : (g : Counts → Answer) (r : Checked) (x : Outcome Counts) (y : Refusal) → said_checked r ≡ x → r ≡ Checked-Refused y → said_step (Refused y) ≡ after x g
-unfolding after said_checked said_step
-after_refused g r x y e d = rw (← e, d) refl
 
 -- ---- a step goes by its phase
 never : {A : Type 0} → ◌≡◌ {A = Bool} false true → A
@@ -133,4 +130,4 @@ of_cells_as p v t e f = rw e f
 
 pub ruleset phases = (in_partition, in_first, in_items, in_values, in_prefix, in_columns, not_statics, not_cells)
 
-pub ruleset answers = (told, moved_is, moved_bad, step_is, step_done, step_bad, handed_next, handed_bad, after_counted, after_refused)
+pub ruleset moves = (told, moved_is, moved_err, step_is, step_done, step_err, handed_next, handed_bad)

@@ -1,6 +1,8 @@
 -- "One step takes the walk's state by value and hands back the next item and state": c is the schema, k its columns' counts, b the bases, s
 -- Data, x the cursor. Assumes nothing.
-use Rattle.std.specs.Prelude.{ℕ, ◌+◌, ◌*◌, ◌/◌, ◌^◌, Bool, true, false, List, ltb, eqb, length, get_or}
+use Rattle.common.specs.declared.refusal.Refusal.{Refusal}
+use Rattle.common.specs.declared.reading.Bad.{Bad}
+use Rattle.std.specs.Prelude.{ℕ, ◌+◌, ◌*◌, ◌/◌, ◌^◌, Bool, true, false, List, ltb, eqb, length, get_or, Result, Ok, Err, Option as Optional, Some, None}
 use Rattle.std.proofs.Math.Option.{Option, none, some}
 use Rattle.std.specs.Int.Count.{count_trailing_zeros}
 use Rattle.common.specs.Choose.{pick, bind}
@@ -25,10 +27,6 @@ use Rattle.data_items.specs.declared.Item.{Item}
 use Rattle.data_walk.specs.declared.cursors.Phase.{Phase}
 use Rattle.data_walk.specs.declared.cursors.Phase.TheVariants.{Partition, First, Items, Values, Prefix, Statics, Cells}
 use Rattle.data_walk.specs.declared.cursors.Cursor.{Cursor}
-use Rattle.data_walk.specs.declared.steps.Moved.{Moved}
-use Rattle.data_walk.specs.declared.steps.Moved.TheVariants.{Next as moved-next, Refused as moved-refused}
-use Rattle.data_walk.specs.declared.steps.Step.{Step}
-use Rattle.data_walk.specs.declared.steps.Step.TheVariants.{Next, Done, Refused}
 
 -- an item, and the cursor behind it; and as it is read, up to the cursor's position
 abbrev pub Handed : Type 0
@@ -191,11 +189,11 @@ unfoldable pub step_at : List ℕ → Bases → Cursor → List ℕ → Answer
 step_at c b x s = after (table_at c b s 0) (λ k. step_in x.phase c k b s x)
 
 -- ---- what the code's answers say
-unfoldable pub said_moved : Moved → Got Handed
-said_moved (moved-next i y) = hands i y
-said_moved (moved-refused f p) = bad f p
+unfoldable pub said_moved : Result (Item × Cursor) Bad → Got Handed
+said_moved (Ok x) = hands x.0 x.1
+said_moved (Err e) = bad e.fault e.place
 
-unfoldable pub said_step : Step → Answer
-said_step (Next i y) = taken (some (i, y))
-said_step Done = done
-said_step (Refused r) = said_refusal r
+unfoldable pub said_step : Result (Optional (Item × Cursor)) Refusal → Answer
+said_step (Ok (Some x)) = taken (some (x.0, x.1))
+said_step (Ok None) = done
+said_step (Err r) = said_refusal r

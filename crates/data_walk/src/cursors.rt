@@ -155,22 +155,14 @@ pub(crate) fn at_items(position: usize, phase: Phase, opened: Deletion) -> Curso
 pub(crate) fn at_cells(x: Cursor) -> Cursor
     ensures { result ≡ at_cells x }
 {
-    let hand = x.hand;
-    let times = hand.times;
-    let opened = x.opened;
     Cursor {
-        position: hand.resume,
+        position: x.hand.resume,
         phase: Phase::Cells,
-        opened,
         hand: Hand {
             column: 0,
-            count: hand.count,
-            header: hand.header,
-            resume: hand.resume,
-            stop: hand.stop,
-            present: hand.present,
-            times,
+            ..x.hand
         },
+        ..x
     }
 }
 
@@ -186,22 +178,10 @@ pub(crate) fn behind_value(x: Cursor, next: usize, last: Cursor) -> Cursor
     if column == hand.count {
         return last;
     }
-    let times = hand.times;
-    let opened = x.opened;
-    let phase = x.phase;
     Cursor {
         position: next,
-        phase,
-        opened,
-        hand: Hand {
-            column,
-            count: hand.count,
-            header: hand.header,
-            resume: hand.resume,
-            stop: hand.stop,
-            present: hand.present,
-            times,
-        },
+        hand: Hand { column, ..hand },
+        ..x
     }
 }
 
@@ -210,22 +190,10 @@ pub(crate) fn behind_cell(x: Cursor, column: u64, next: usize) -> Cursor
     ensures { result ≡ behind_cell x column next }
 {
     let hand = x.hand;
-    let times = hand.times;
-    let opened = x.opened;
-    let phase = x.phase;
     Cursor {
         position: next,
-        phase,
-        opened,
-        hand: Hand {
-            column,
-            count: hand.count,
-            header: hand.header,
-            resume: hand.resume,
-            stop: hand.stop,
-            present: hand.present,
-            times,
-        },
+        hand: Hand { column, ..hand },
+        ..x
     }
 }
 

@@ -7,7 +7,7 @@ ghost use Rattle.data_walk.specs.Walks.{start};
 
 use crate::cursors;
 use crate::cursors::{Cursor, Hand, Phase};
-use common::number::Num;
+use common::reading::Bad;
 use common::refusal::{Fault, Refusal, Slice};
 use common::times::Bases;
 use data_cell::cells;
@@ -15,46 +15,33 @@ use data_cell::cells::Times;
 use data_clustering::prefixes;
 use data_clustering::prefixes::Prefix;
 use data_field::fields;
-use data_field::fields::{Deletion, Part};
+use data_field::fields::Deletion;
 use data_items::Item;
 use data_marker::markers;
 use data_partition::partitions;
 use data_row::rows;
 use data_row::rows::Row;
-use schema_check::records::{Checked, Counts};
+use schema_check::records::Counts;
 
-#[derive(Clone, Copy)]
-enum Moved {
-    Next { item: Item, cursor: Cursor },
-    Refused { fault: Fault, place: usize },
-}
+// An item and the cursor behind it, or why it is refused.
+type Moved = Result<(Item, Cursor), Bad>;
 
-#[derive(Clone, Copy)]
-pub enum Step {
-    // The item, and the cursor behind it.
-    Next { item: Item, cursor: Cursor },
-    // No item: all of Data is read.
-    Done,
-    Refused(Refusal),
-}
+// An item and the cursor behind it; no item where all of Data is read; or a refusal.
+pub type Step = Result<Option<(Item, Cursor)>, Refusal>;
 
 // A partition's header.
 fn read_partition(s: &[u8], at: usize) -> Moved
     ensures { said_moved result ≡ partition_step s.now at }
 {
-    match partitions::read_partition(s, at, s.len()) {
-        partitions::Found::Read { partition, next } => {
-            let item = data_items::partition_item(partition);
-            let opened = Deletion {
-                deleted: 0,
-                mark: 0,
-                local: 0,
-            };
-            let cursor = cursors::at_items(next, Phase::First, opened);
-            Moved::Next { item, cursor }
-        }
-        partitions::Found::Refused { fault, place } => Moved::Refused { fault, place },
-    }
+    let (partition, next) = partitions::read_partition(s, at, s.len())?;
+    let item = data_items::partition_item(partition);
+    let opened = Deletion {
+        deleted: 0,
+        mark: 0,
+        local: 0,
+    };
+    let cursor = cursors::at_items(next, Phase::First, opened);
+    Ok((item, cursor))
 }
 
 // The end byte at at, before next.
@@ -69,12 +56,9 @@ fn read_end(opened: Deletion, at: usize, next: usize) -> Moved
             local: 0,
         };
         let cursor = cursors::at_items(next, Phase::Partition, none);
-        return Moved::Next { item, cursor };
+        return Ok((item, cursor));
     }
-    Moved::Refused {
-        fault: Fault::OutOfTurn,
-        place: at,
-    }
+    Err(Fault::OutOfTurn.at(at))
 }
 
 // A marker, whole.
@@ -82,14 +66,10 @@ fn read_marker(c: &[u8], k: Counts, b: Bases, s: &[u8], opened: Deletion, at: us
     requires { 16 + 16 * k.clustering ≤ length c.now }
     ensures { said_moved result ≡ marker_step c.now k b s.now opened at }
 {
-    match markers::read_marker(s, at, s.len(), c, k.clustering, b, opened) {
-        markers::Found::Read { marker, next } => {
-            let item = data_items::marker_item(marker, next);
-            let cursor = cursors::behind_marker(marker, next);
-            Moved::Next { item, cursor }
-        }
-        markers::Found::Refused { fault, place } => Moved::Refused { fault, place },
-    }
+    let (marker, next) = markers::read_marker(s, at, s.len(), c, k.clustering, b, opened)?;
+    let item = data_items::marker_item(marker, next);
+    let cursor = cursors::behind_marker(marker, next);
+    Ok((item, cursor))
 }
 
 // A row whose first cell stands at next.
@@ -99,12 +79,12 @@ fn row_handed(k: Counts, opened: Deletion, row: Row, next: usize) -> Moved
     if row.extended == 1 {
         let item = data_items::row_item(2, row);
         let cursor = cursors::behind_row(row, 0, next, opened, Phase::Statics, next);
-        return Moved::Next { item, cursor };
+        return Ok((item, cursor));
     }
     let item = data_items::row_item(3, row);
     if k.clustering == 0 {
         let cursor = cursors::behind_row(row, 0, next, opened, Phase::Cells, next);
-        return Moved::Next { item, cursor };
+        return Ok((item, cursor));
     }
     let prefix = row.prefix;
     let cursor = cursors::behind_row(
@@ -115,7 +95,7 @@ fn row_handed(k: Counts, opened: Deletion, row: Row, next: usize) -> Moved
         Phase::Values,
         prefix.values,
     );
-    Moved::Next { item, cursor }
+    Ok((item, cursor))
 }
 
 // A row, up to its first cell.
@@ -131,7 +111,7 @@ fn read_row(
     requires { (16 + 16 * k.clustering ≤ length c.now) × (k.statics ≤ 63) × (k.regulars ≤ 63) }
     ensures { said_moved result ≡ row_step c.now k b s.now first opened at }
 {
-    match rows::read_row(
+    let (row, next) = rows::read_row(
         s,
         at,
         s.len(),
@@ -141,10 +121,8 @@ fn read_row(
         k.regulars,
         first,
         b,
-    ) {
-        rows::Found::Read { row, next } => row_handed(k, opened, row, next),
-        rows::Found::Refused { fault, place } => Moved::Refused { fault, place },
-    }
+    )?;
+    row_handed(k, opened, row, next)
 }
 
 // An item of a partition: the end byte, a marker or a row.
@@ -160,18 +138,14 @@ fn read_item(
     requires { (16 + 16 * k.clustering ≤ length c.now) × (k.statics ≤ 63) × (k.regulars ≤ 63) }
     ensures { said_moved result ≡ item_step c.now k b s.now first opened at }
 {
-    match fields::read_byte(s, at, s.len()) {
-        Num::Number { value, next } => {
-            if value == 1 {
-                return read_end(opened, at, next);
-            }
-            if value == 2 {
-                return read_marker(c, k, b, s, opened, at);
-            }
-            read_row(c, k, b, s, first, opened, at)
-        }
-        Num::Refused { fault, place } => Moved::Refused { fault, place },
+    let (value, next) = fields::read_byte(s, at, s.len())?;
+    if value == 1 {
+        return read_end(opened, at, next);
     }
+    if value == 2 {
+        return read_marker(c, k, b, s, opened, at);
+    }
+    read_row(c, k, b, s, first, opened, at)
 }
 
 // A clustering value; behind the last one the cursor is last.
@@ -183,14 +157,10 @@ fn read_value(c: &[u8], s: &[u8], x: Cursor, last: Cursor) -> Moved
     let i = hand.column as usize;
     let width = c[16 * i + 19];
     let header = hand.header >> (2 * hand.column);
-    match prefixes::read_clustering(s, x.position, s.len(), width, header) {
-        Part::Lies { value, next } => {
-            let item = data_items::value_item(hand.column, value);
-            let cursor = cursors::behind_value(x, next, last);
-            Moved::Next { item, cursor }
-        }
-        Part::Refused { fault, place } => Moved::Refused { fault, place },
-    }
+    let (value, next) = prefixes::read_clustering(s, x.position, s.len(), width, header)?;
+    let item = data_items::value_item(hand.column, value);
+    let cursor = cursors::behind_value(x, next, last);
+    Ok((item, cursor))
 }
 
 // The cell of column i, where the first column's record stands at base.
@@ -202,14 +172,10 @@ fn read_cell(c: &[u8], b: Bases, s: &[u8], x: Cursor, base: usize, i: u64) -> Mo
     let times = hand.times;
     let j = i as usize;
     let width = c[base + 16 * j + 3];
-    match cells::read_cell(s, x.position, hand.stop, width, b, times) {
-        cells::Found::Read { cell, next } => {
-            let item = data_items::cell_item(i, cell);
-            let cursor = cursors::behind_cell(x, i + 1, next);
-            Moved::Next { item, cursor }
-        }
-        cells::Found::Refused { fault, place } => Moved::Refused { fault, place },
-    }
+    let (cell, next) = cells::read_cell(s, x.position, hand.stop, width, b, times)?;
+    let item = data_items::cell_item(i, cell);
+    let cursor = cursors::behind_cell(x, i + 1, next);
+    Ok((item, cursor))
 }
 
 // The next cell of n columns that is there; behind the last one the next item.
@@ -221,10 +187,7 @@ fn read_cells(c: &[u8], k: Counts, b: Bases, s: &[u8], x: Cursor, base: usize, n
     let left = hand.present >> hand.column;
     if left == 0 {
         if x.position < hand.stop {
-            return Moved::Refused {
-                fault: Fault::LeftOver,
-                place: x.position,
-            };
+            return Err(Fault::LeftOver.at(x.position));
         }
         let opened = x.opened;
         return read_item(c, k, b, s, 0, opened, x.position);
@@ -238,12 +201,8 @@ fn hand_out(m: Moved) -> Step
     ensures { said_step result ≡ handed (said_moved m) }
 {
     match m {
-        Moved::Next { item, cursor } => Step::Next { item, cursor },
-        Moved::Refused { fault, place } => Step::Refused(Refusal {
-            fault,
-            slice: Slice::Data,
-            place,
-        }),
+        Ok((item, cursor)) => Ok(Some((item, cursor))),
+        Err(bad) => Err(bad.fault.of(Slice::Data, bad.place)),
     }
 }
 
@@ -252,14 +211,10 @@ fn step_partition(s: &[u8], x: Cursor) -> Step
     ensures { said_step result ≡ partition_answer s.now x }
 {
     if s.len() < x.position {
-        return Step::Refused(Refusal {
-            fault: Fault::BadRecord,
-            slice: Slice::State,
-            place: 0,
-        });
+        return Err(Fault::BadRecord.of(Slice::State, 0));
     }
     if x.position == s.len() {
-        return Step::Done;
+        return Ok(None);
     }
     hand_out(read_partition(s, x.position))
 }
@@ -270,11 +225,7 @@ fn step_item(c: &[u8], k: Counts, b: Bases, s: &[u8], first: u8, x: Cursor) -> S
     ensures { said_step result ≡ item_answer c.now k b s.now first x }
 {
     if s.len() < x.position {
-        return Step::Refused(Refusal {
-            fault: Fault::BadRecord,
-            slice: Slice::State,
-            place: 0,
-        });
+        return Err(Fault::BadRecord.of(Slice::State, 0));
     }
     let opened = x.opened;
     hand_out(read_item(c, k, b, s, first, opened, x.position))
@@ -286,11 +237,7 @@ fn step_values(c: &[u8], k: Counts, s: &[u8], x: Cursor) -> Step
     ensures { said_step result ≡ values_answer c.now k s.now x }
 {
     if cursors::is_bad_values(k, s.len(), x) {
-        return Step::Refused(Refusal {
-            fault: Fault::BadRecord,
-            slice: Slice::State,
-            place: 0,
-        });
+        return Err(Fault::BadRecord.of(Slice::State, 0));
     }
     let last = cursors::at_cells(x);
     hand_out(read_value(c, s, x, last))
@@ -302,11 +249,7 @@ fn step_prefix(c: &[u8], k: Counts, s: &[u8], x: Cursor) -> Step
     ensures { said_step result ≡ prefix_answer c.now k s.now x }
 {
     if cursors::is_bad_prefix(k, s.len(), x) {
-        return Step::Refused(Refusal {
-            fault: Fault::BadRecord,
-            slice: Slice::State,
-            place: 0,
-        });
+        return Err(Fault::BadRecord.of(Slice::State, 0));
     }
     let hand = x.hand;
     let opened = x.opened;
@@ -320,11 +263,7 @@ fn step_cells(c: &[u8], k: Counts, b: Bases, s: &[u8], x: Cursor, base: usize, n
     ensures { said_step result ≡ cells_answer c.now k b s.now x base n }
 {
     if cursors::is_bad_cells(n, s.len(), x) {
-        return Step::Refused(Refusal {
-            fault: Fault::BadRecord,
-            slice: Slice::State,
-            place: 0,
-        });
+        return Err(Fault::BadRecord.of(Slice::State, 0));
     }
     hand_out(read_cells(c, k, b, s, x, base, n))
 }
@@ -396,11 +335,7 @@ fn step_columns(c: &[u8], k: Counts, b: Bases, s: &[u8], fixed: bool, x: Cursor)
     ensures { said_step result ≡ columns_answer fixed c.now k b s.now x }
 {
     if is_lacking(fixed, k) {
-        return Step::Refused(Refusal {
-            fault: Fault::BadRecord,
-            slice: Slice::State,
-            place: 0,
-        });
+        return Err(Fault::BadRecord.of(Slice::State, 0));
     }
     let base = columns_at(fixed, k);
     let n = columns_of(fixed, k);
@@ -424,8 +359,8 @@ pub fn step_in(c: &[u8], k: Counts, b: Bases, s: &[u8], x: Cursor) -> Step
         Phase::Values => step_values(c, k, s, x),
         Phase::Prefix => step_prefix(c, k, s, x),
         // Both are answered above.
-        Phase::Statics => Step::Done,
-        Phase::Cells => Step::Done,
+        Phase::Statics => Ok(None),
+        Phase::Cells => Ok(None),
     }
 }
 
@@ -446,9 +381,7 @@ impl Cursor {
     pub fn step(self, schema: &[u8], bases: Bases, data: &[u8]) -> Step
         ensures { said_step result ≡ step_at schema.now bases self «data».now }
     {
-        match call_check::check(schema, bases, data, 0) {
-            Checked::Counted(counts) => step_in(schema, counts, bases, data, self),
-            Checked::Refused(refusal) => Step::Refused(refusal),
-        }
+        let counts = call_check::check(schema, bases, data, 0)?;
+        step_in(schema, counts, bases, data, self)
     }
 }

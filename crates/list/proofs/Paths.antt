@@ -7,8 +7,7 @@ use lib.ListN.{length, take, length-append}
 use lib.Seq.{take-length, length-take-le}
 use Rattle.common.specs.Store.{part, Room, Puts}
 use Rattle.list.specs.Files.{name_of, path_of, Loads}
-use Rattle.list.specs.declared.files.Loaded.{Loaded}
-use Rattle.list.specs.declared.files.Loaded.TheVariants.{Bytes}
+use Rattle.std.proofs.Common.{Option, Some}
 
 part_all : (w : List ℕ) → part w 0 (length w) ≡ w
 unfolding part
@@ -38,5 +37,5 @@ first_bytes d n h = sym (length-take-le n d h)
 pub first_schema : (d : List ℕ) (n : ℕ) → n ≤ 2544 → 2544 ≤ length d → n ≡ length (take n d)
 first_schema d n h k = first_bytes d n (omega arith)
 
-pub loaded_within : (r : Loaded) (d : List ℕ) (n : ℕ) → Loads r d → r ≡ Bytes n → n ≤ length d
+pub loaded_within : (r : Option ℕ) (d : List ℕ) (n : ℕ) → Loads r d → r ≡ Some n → n ≤ length d
 loaded_within r d n h e = rw e at h

@@ -1,4 +1,5 @@
 -- What reading Statistics gives: the base times, and the schema records at the start of the buffer. Assumes nothing.
+use Rattle.std.proofs.Common.{Result, Ok, Err}
 use mathlib.Core.Path.{◌≡◌, refl, ap}
 use mathlib.Core.Bool.{Bool, true, false}
 use mathlib.Core.List.{List, [], ◌∷◌, ◌++◌}
@@ -10,7 +11,7 @@ use lib.ListN.{length, take, drop, length-append}
 use lib.Seq.{take_at}
 use Rattle.common.specs.Choose.{pick, bind}
 use Rattle.common.specs.Got.{Got, got, bad, within}
-use Rattle.common.specs.Refusals.{Outcome, taken, refused, said_refusal}
+use Rattle.common.specs.Refusals.{Outcome, taken, refused, said_refusal, outcome}
 use Rattle.common.specs.Store.{splice}
 use Rattle.common.specs.declared.refusal.Fault.{Fault}
 use Rattle.common.specs.declared.refusal.Slice.{Slice}
@@ -22,12 +23,10 @@ use Rattle.stats_contents.specs.declared.contents.Contents.{Contents}
 use Rattle.schema_column.specs.declared.Column.{Column}
 use Rattle.stats_file.specs.Buffer.{column_count}
 use Rattle.stats_file.specs.Header.{of_clustering, of_static, of_regular, count_at, columns_at, group_at, groups_at, header_at, records_of}
-use Rattle.stats_file.specs.Statistics.{File, file_at, entries_at, forward_at, backward_at, entry3_at, table_of, answered, filled_in, statistics_of, schema_in, said_answer, Reads}
+use Rattle.stats_file.specs.Statistics.{File, file_at, entries_at, forward_at, backward_at, entry3_at, table_of, answered, filled_in, statistics_of, schema_in, Reads}
 use Rattle.stats_file.specs.declared.Table.{Table}
 use Rattle.stats_file.specs.declared.columns.Sizes.{Sizes}
 use Rattle.schema_check.specs.Records.{most_of}
-use Rattle.stats_file.specs.declared.Answer.{Answer}
-use Rattle.stats_file.specs.declared.Answer.TheVariants.{Read, Refused}
 use Rattle.stats_file.proofs.Records.{length_records}
 use Rattle.print_line.specs.Reports.{statistics_at}
 
@@ -129,9 +128,9 @@ module _ (s d d' : List ℕ) (l : length d ≡ 2544) where
         records = rw g (first_of d (records_of x.header.columns) (16 * column_count t.sizes) z);
       }
 
-  module _ (a : Answer) (r : Reads s d d' a) where
-    pub read_whole : (t : Table) → a ≡ Read t → Whole s d' t
-    unfolding statistics_of schema_in said_answer pick answered filled_in
+  module _ (a : Result Table Refusal) (r : Reads s d d' a) where
+    pub read_whole : (t : Table) → a ≡ Ok t → Whole s d' t
+    unfolding statistics_of schema_in outcome pick answered filled_in
     read_whole t e = go (ltb 1073741824 (length s)) (file_at s) refl refl (rw (small, e) at r.answer) (rw small at r.buffer)
       where
         no : {C : Type 0} {f : _} {z : _} {p : ℕ} → taken t ≡ refused f z p → C
@@ -146,8 +145,8 @@ module _ (s d d' : List ℕ) (l : length d ≡ 2544) where
         go false (bad y z) p q f g = no f
         go false (got x n) p q f g = whole_of x n t q p (same (table_of x) (rw (records_fit x n q) at f)) (rw (records_fit x n q) at g)
 
-    pub read_refused : (q : Refusal) → a ≡ Refused q → statistics_at s ≡ said_refusal q
-    unfolding statistics_of said_answer pick answered statistics_at within
+    pub read_refused : (q : Refusal) → a ≡ Err q → statistics_at s ≡ said_refusal q
+    unfolding statistics_of outcome pick answered statistics_at within
     read_refused q e = go (ltb 1073741824 (length s)) (file_at s) refl refl (rw (small, e) at r.answer)
       where
         no : {C : Type 0} {t : Table} → said_refusal {A = Table} q ≡ taken t → C

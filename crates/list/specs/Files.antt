@@ -1,7 +1,5 @@
 -- What is said of reading files: no contract can say which bytes are read. Assumes nothing.
-use Rattle.std.specs.Prelude.{ℕ, ◌≤◌, List, [], ◌∷◌, ◌++◌, length}
-use Rattle.list.specs.declared.files.Loaded.{Loaded}
-use Rattle.list.specs.declared.files.Loaded.TheVariants.{Bytes, Not}
+use Rattle.std.specs.Prelude.{ℕ, ◌≤◌, Option, IfSome, List, [], ◌∷◌, ◌++◌, length}
 
 -- the path of a file in a folder: a slash and the name behind it
 unfoldable pub name_of : List ℕ → List ℕ
@@ -11,6 +9,5 @@ unfoldable pub path_of : List ℕ → List ℕ → List ℕ
 path_of folder name = folder ++ name_of name
 
 -- a file that is loaded lies in the buffer d
-abbrev pub Loads : Loaded → List ℕ → Type 0
-Loads (Bytes n) d = n ≤ length d
-Loads Not d = Unit
+abbrev pub Loads : Option ℕ → List ℕ → Type 0
+Loads r d = IfSome r (λ n. n ≤ length d)

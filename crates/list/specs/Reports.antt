@@ -1,13 +1,12 @@
 -- What the program knows before it prints. Assumes nothing.
-use Rattle.std.specs.Prelude.{ℕ, ◌≤◌, List, take}
+use Rattle.std.specs.Prelude.{ℕ, ◌≤◌, List, take, Result, Ok, Err}
 use Rattle.common.specs.Refusals.{Outcome, taken, said_refusal}
+use Rattle.common.specs.declared.refusal.Refusal.{Refusal}
 use Rattle.common.specs.declared.times.Bases.{Bases}
 use Rattle.stats_file.specs.Header.{records_of}
 use Rattle.call_check.specs.Tables.{after}
 use Rattle.list_call.specs.Lists.{list_at}
 use Rattle.print_line.specs.Reports.{statistics_at}
-use Rattle.list.specs.declared.report.Begun.{Begun}
-use Rattle.list.specs.declared.report.Begun.TheVariants.{Listing, Refused}
 
 -- ---- what is known before the first line: the base times and the schema, or the refusal
 abbrev pub Known : Type 0
@@ -20,11 +19,11 @@ unfoldable pub begun_at : List ℕ → List ℕ → Outcome Known
 begun_at file s = after (statistics_at file) (λ x. counted_at (records_of x.header.columns) x.header.bases s)
 
 -- what the code's answer says, where the buffer d holds the schema
-unfoldable pub begun_of : Begun → List ℕ → Outcome Known
-begun_of (Listing b n) d = taken (b, take n d)
-begun_of (Refused r) d = said_refusal r
+unfoldable pub begun_of : Result (Bases × ℕ) Refusal → List ℕ → Outcome Known
+begun_of (Ok (b, n)) d = taken (b, take n d)
+begun_of (Err r) d = said_refusal r
 
 -- the schema lies in the buffer
-abbrev pub Fit : Begun → Type 0
-Fit (Listing b n) = n ≤ 2544
-Fit (Refused r) = Unit
+abbrev pub Fit : Result (Bases × ℕ) Refusal → Type 0
+Fit (Ok (b, n)) = n ≤ 2544
+Fit (Err r) = Unit

@@ -8,15 +8,6 @@ use std::io::Read;
 use std::rt::Files;
 use std::{fs, io};
 
-// What came of reading a file.
-#[derive(Clone, Copy)]
-pub(crate) enum Loaded {
-    // How many bytes it has: all are in the buffer.
-    Bytes(usize),
-    // It is not listed, which was said.
-    Not,
-}
-
 // Says what is not listed, and why. An error is the output's: the line may then be cut short.
 pub(crate) fn say(rt: &impl Print, folder: &[u8], name: &[u8], why: &[u8]) -> io::Result<()> {
     rt.write_all(b"not listed: ")?;
@@ -78,6 +69,7 @@ fn read_full(file: &mut impl Read, buf: &mut [u8]) -> io::Result<usize>
     ensures { IfOk result (λ n. n ≤ length buf.new) }
 {
     let mut done = 0;
+    // A read gives as many bytes as it likes: how many steps there are is not known before.
     while done < buf.len() {
         let n = file.read(&mut buf[done..])?;
         if n == 0 {
@@ -105,24 +97,24 @@ pub(crate) fn load(
     folder: &[u8],
     name: &[u8],
     buf: &mut [u8],
-) -> io::Result<Loaded>
+) -> io::Result<Option<usize>>
     requires { length name.now ≤ 64 }
     ensures ok { IfOk result (λ loaded. Loads loaded buf.new) }
     ensures err { IfErr result (λ _. length buf.new ≡ length buf.old) }
 {
     let Some(mut file) = open_in(rt, folder, name) else {
         say(rt, folder, name, b" cannot be opened\n")?;
-        return Ok(Loaded::Not);
+        return Ok(None);
     };
     match read_file(&mut file, buf) {
-        Ok(Some(n)) => Ok(Loaded::Bytes(n)),
+        Ok(Some(n)) => Ok(Some(n)),
         Ok(None) => {
             say(rt, folder, name, b" is too long\n")?;
-            Ok(Loaded::Not)
+            Ok(None)
         }
         Err(_) => {
             say(rt, folder, name, b" cannot be read\n")?;
-            Ok(Loaded::Not)
+            Ok(None)
         }
     }
 }

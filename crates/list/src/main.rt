@@ -5,7 +5,6 @@
 mod files; // files.rt: reading the files
 mod report; // report.rt: what is printed of them
 
-use files::Loaded;
 use std::env::FillError;
 use std::io;
 use std::rt::{Env, Files};
@@ -22,10 +21,10 @@ fn is_over(n: usize, m: usize) -> bool {
 fn list_folder(rt: &(impl Files + Print), folder: &[u8]) -> io::Result<()> {
     let mut statistics = [0u8; 65536];
     let mut data = [0u8; 65536];
-    let Loaded::Bytes(n) = files::load(rt, folder, b"Statistics.db", &mut statistics)? else {
+    let Some(n) = files::load(rt, folder, b"Statistics.db", &mut statistics)? else {
         return Ok(());
     };
-    let Loaded::Bytes(m) = files::load(rt, folder, b"Data.db", &mut data)? else {
+    let Some(m) = files::load(rt, folder, b"Data.db", &mut data)? else {
         return Ok(());
     };
     if is_over(n, m) {

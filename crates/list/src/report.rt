@@ -8,20 +8,10 @@ use common::refusal::Refusal;
 use common::times::Bases;
 use data_walk::cursors::Cursor;
 use list_call::lists;
-use list_call::lists::Listed;
 use print_line::refusals;
 use print_page::Filled;
-use stats_file::Answer;
 use stats_file::columns::Sizes;
 use std::io;
-
-// Whether the files are listed.
-#[derive(Clone, Copy)]
-enum Begun {
-    // They are: the base times, and how many bytes of schema records there are.
-    Listing { bases: Bases, len: usize },
-    Refused(Refusal),
-}
 
 // How many bytes the schema records of so many columns take.
 fn record_bytes(z: Sizes) -> usize
@@ -32,32 +22,24 @@ fn record_bytes(z: Sizes) -> usize
 }
 
 // Whether Data is listed, in a table of the bases whose schema records are the first len bytes.
-fn count(schema: &[u8], len: usize, bases: Bases, data: &[u8]) -> Begun
+fn count(schema: &[u8], len: usize, bases: Bases, data: &[u8]) -> Result<(Bases, usize), Refusal>
     requires { (len ≤ 2544) × (2544 ≤ length schema.now) }
     ensures schema_value { begun_of result schema.now ≡ counted_at (take len schema.now) bases «data».now }
     ensures fit { Fit result }
 {
-    match lists::count(&schema[..len], bases, data) {
-        Listed::Records(_) => Begun::Listing { bases, len },
-        Listed::Refused(refusal) => Begun::Refused(refusal),
-    }
+    lists::count(&schema[..len], bases, data)?;
+    Ok((bases, len))
 }
 
 // Reads Statistics, its schema records into schema, and tells whether Data is listed: known before the first line is printed.
-fn begin(file: &[u8], data: &[u8], schema: &mut [u8]) -> Begun
+fn begin(file: &[u8], data: &[u8], schema: &mut [u8]) -> Result<(Bases, usize), Refusal>
     requires { length schema.old ≡ 2544 }
     ensures schema_after { begun_of result schema.new ≡ begun_at file.now «data».now }
     ensures fit { Fit result }
 {
-    match stats_file::read(file, schema) {
-        Answer::Read(table) => {
-            let bases = table.bases;
-            let sizes = table.sizes;
-            let len = record_bytes(sizes);
-            count(schema, len, bases, data)
-        }
-        Answer::Refused(refusal) => Begun::Refused(refusal),
-    }
+    let table = stats_file::read(file, schema)?;
+    let len = record_bytes(table.sizes);
+    count(schema, len, table.bases, data)
 }
 
 // Prints the first n bytes. An error is the output's, here and below: some of what was to be printed may then be missing.
@@ -113,6 +95,7 @@ fn print_page(
 // Prints the lines of the listing.
 fn print_lines(rt: &impl Print, schema: &[u8], bases: Bases, data: &[u8]) -> io::Result<()> {
     let mut x = Cursor::start();
+    // A page begins where the last one ended.
     loop {
         match print_page(rt, schema, bases, data, x)? {
             Filled::More { len: _, cursor } => {
@@ -149,8 +132,8 @@ fn print_refusal(rt: &impl Print, refusal: Refusal) -> io::Result<()> {
 fn print_files(rt: &impl Print, file: &[u8], data: &[u8]) -> io::Result<()> {
     let mut schema = [0u8; 2544];
     match begin(file, data, &mut schema) {
-        Begun::Listing { bases, len } => print_listing(rt, &schema, len, bases, data),
-        Begun::Refused(refusal) => print_refusal(rt, refusal),
+        Ok((bases, len)) => print_listing(rt, &schema, len, bases, data),
+        Err(refusal) => print_refusal(rt, refusal),
     }
 }
 

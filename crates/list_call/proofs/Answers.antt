@@ -1,4 +1,5 @@
 -- The cases of the listing's answer. Assumes nothing.
+use Rattle.std.proofs.Common.{Err, Ok, Result}
 use mathlib.Core.Path.{◌≡◌, refl, sym, ap, ◌∙◌}
 use mathlib.Core.List.{List, [], ◌∷◌}
 use mathlib.Core.Option.{none, some}
@@ -8,7 +9,7 @@ use borrow.Author.Tests.{lt-ltb, le-ltb}
 use lib.Dec.{ltb}
 use lib.ListN.{length}
 use Rattle.common.specs.Choose.{pick, bind}
-use Rattle.common.specs.Refusals.{Outcome, taken, refused}
+use Rattle.common.specs.Refusals.{Outcome, taken, refused, outcome}
 use Rattle.common.specs.Store.{splice}
 use Rattle.common.specs.declared.refusal.Fault.{Fault}
 use Rattle.common.specs.declared.refusal.Fault.TheVariants.{NoRoom}
@@ -17,10 +18,7 @@ use Rattle.common.specs.declared.refusal.Slice.{Slice}
 use Rattle.common.specs.declared.refusal.Slice.TheVariants.{Output}
 use Rattle.common.specs.declared.times.Bases.{Bases}
 use Rattle.common.proofs.Choose.{pick_yes, pick_no}
-use Rattle.schema_check.specs.Records.{said_checked}
 use Rattle.schema_check.specs.declared.records.Counts.{Counts}
-use Rattle.schema_check.specs.declared.records.Checked.{Checked}
-use Rattle.schema_check.specs.declared.records.Checked.TheVariants.{Counted, Refused as Checked-Refused}
 use Rattle.data_walk.specs.Cursors.{at_items}
 use Rattle.data_walk.specs.Steps.{Answer, step_in}
 use Rattle.call_check.specs.Tables.{after, table_at}
@@ -30,9 +28,7 @@ use Rattle.data_walk.specs.declared.cursors.Cursor.{Cursor}
 use Rattle.call_check.proofs.Schemas.{told_table}
 use Rattle.data_contents.specs.Contents.{contents_of}
 use Rattle.data_contents.proofs.Lists.{walk_lists}
-use Rattle.list_call.specs.Lists.{list_at, counted, fitted, record_bytes, kept, said_listed, Ready, Lists}
-use Rattle.list_call.specs.declared.lists.Listed.{Listed}
-use Rattle.list_call.specs.declared.lists.Listed.TheVariants.{Records, Refused}
+use Rattle.list_call.specs.Lists.{list_at, counted, fitted, record_bytes, kept, Ready, Lists}
 
 -- ---- the length of a walk
 -- x has at most n items
@@ -73,71 +69,67 @@ module _ (x : Outcome (List Item)) (n : ℕ) where
     are : x ≡ taken items
     many : length items ≡ n
 
-  counts_to : said_listed (Records n) ≡ counted 0 x → CountsTo
-  unfolding said_listed counted
+  counts_to : outcome (Ok n) ≡ counted 0 x → CountsTo
+  unfolding outcome counted
   counts_to e = go x refl e
     where
       go : (y : Outcome (List Item)) → x ≡ y → taken n ≡ counted 0 y → CountsTo
       go (taken l) f g = let q : n ≡ 0 + length l = cc in record { items = l; are = f; many = omega arith }
       go (refused y z p) f g = let q : ◌≡◌ {A = ℕ} 0 1 = cc in absurd (omega arith)
 
-module _ (x : Outcome (List Item)) (r : Listed) (e : said_listed r ≡ counted 0 x) where
-  module _ (n : ℕ) (f : r ≡ Records n) where
-    that : said_listed (Records n) ≡ counted 0 x
+module _ (x : Outcome (List Item)) (r : Result ℕ Refusal) (e : outcome r ≡ counted 0 x) where
+  module _ (n : ℕ) (f : r ≡ Ok n) where
+    that : outcome (Ok n) ≡ counted 0 x
     that = rw f at e
 
     pub ready : (d : List ℕ) → n ≤ length d / 64 → Ready x (length d)
     ready d l = let h = counts_to x n that in record { items = h.items; are = h.are; fits = omega (arith, h.many) }
 
-    pub lists_full : (d : List ℕ) (q : Listed) → length d / 64 < n → said_listed q ≡ refused NoRoom Output (64 * n) → Lists x d d q
-    unfolding said_listed fitted kept
+    pub lists_full : (d : List ℕ) (q : Result ℕ Refusal) → length d / 64 < n → outcome q ≡ refused NoRoom Output (64 * n) → Lists x d d q
+    unfolding outcome fitted kept
     lists_full d q l g =
         let t : pick (ltb (length d) (64 * n)) (refused NoRoom Output (64 * n)) (taken n) ≡ refused NoRoom Output (64 * n) = sym (pick_yes _ _ _ _ (lt-ltb (length d) (64 * n) (omega arith)) refl) in
         record { answer = rw (← that, t) g; buffer = rw (← that, t) refl }
 
-    pub lists_whole : (d d' : List ℕ) → n ≤ length d / 64 → d' ≡ splice d 0 (record_bytes x) → Lists x d d' (Records n)
-    unfolding said_listed fitted kept
+    pub lists_whole : (d d' : List ℕ) → n ≤ length d / 64 → d' ≡ splice d 0 (record_bytes x) → Lists x d d' (Ok n)
+    unfolding outcome fitted kept
     lists_whole d d' l g =
         let t : pick (ltb (length d) (64 * n)) (refused NoRoom Output (64 * n)) (taken n) ≡ taken n = sym (pick_no _ _ _ _ (le-ltb (length d) (64 * n) (omega arith)) refl) in
         record { answer = rw (← that, t) refl; buffer = rw (← that, t) g }
 
-  pub lists_refused : (d : List ℕ) (q : Refusal) → r ≡ Refused q → Lists x d d (Refused q)
-  unfolding said_listed fitted kept
+  pub lists_refused : (d : List ℕ) (q : Refusal) → r ≡ Err q → Lists x d d (Err q)
+  unfolding outcome fitted kept
   lists_refused d q f = record { answer = rw (← e, f) refl; buffer = rw (← e, f) refl }
 
-pub count_fits : (c : List ℕ) (k : Counts) (b : Bases) (s : List ℕ) (r : Listed) (n : ℕ) → said_listed r ≡ counted 0 (walk_from c k b s start) → r ≡ Records n
+pub count_fits : (c : List ℕ) (k : Counts) (b : Bases) (s : List ℕ) (r : Result ℕ Refusal) (n : ℕ) → outcome r ≡ counted 0 (walk_from c k b s start) → r ≡ Ok n
     → length s ≤ 1073741824 → n ≤ 274877906944
 count_fits c k b s r n e f l =
     let h = counts_to (walk_from c k b s start) n (rw f at e) in
     omega (arith, h.many, (from_short c k b s).below h.items h.are)
 
 -- ---- behind what a call tests first
-module _ (c : List ℕ) (b : Bases) (s : List ℕ) (room : ℕ) (r : Checked) (e : said_checked r ≡ table_at c b s room) where
-  module _ (k : Counts) (f : r ≡ Counted k) where
+module _ (c : List ℕ) (b : Bases) (s : List ℕ) (room : ℕ) (r : Result Counts Refusal) (e : outcome r ≡ table_at c b s room) where
+  module _ (k : Counts) (f : r ≡ Ok k) where
     -- the walk lists what Data holds
     list_is : list_at c b s room ≡ walk_from c k b s start
-    unfolding list_at after said_checked
+    unfolding list_at after outcome
     list_is = contents_is ∙ sym (walk_lists c k b s (told_table c b s room k r e f))
       where
         contents_is : list_at c b s room ≡ contents_of c k b s
         contents_is = rw (← e, f) refl
 
-    pub counts_table : (q : Listed) → said_listed q ≡ counted 0 (walk_from c k b s start) → said_listed q ≡ counted 0 (list_at c b s room)
+    pub counts_table : (q : Result ℕ Refusal) → outcome q ≡ counted 0 (walk_from c k b s start) → outcome q ≡ counted 0 (list_at c b s room)
     counts_table q g = rw list_is g
 
-    pub lists_table : (d d' : List ℕ) (q : Listed) → Lists (walk_from c k b s start) d d' q → Lists (list_at c b s room) d d' q
+    pub lists_table : (d d' : List ℕ) (q : Result ℕ Refusal) → Lists (walk_from c k b s start) d d' q → Lists (list_at c b s room) d d' q
     lists_table d d' q g = rw list_is g
 
-  module _ (q : Refusal) (f : r ≡ Checked-Refused q) where
-    pub counts_no_table : said_listed (Refused q) ≡ counted 0 (list_at c b s room)
-    unfolding list_at after said_checked said_listed counted
+  module _ (q : Refusal) (f : r ≡ Err q) where
+    pub counts_no_table : outcome (Err q) ≡ counted 0 (list_at c b s room)
+    unfolding list_at after outcome counted
     counts_no_table = rw (← e, f) refl
 
-    pub lists_no_table : (d : List ℕ) → Lists (list_at c b s room) d d (Refused q)
-    lists_no_table d = lists_refused (list_at c b s room) (Refused q) counts_no_table d q refl
+    pub lists_no_table : (d : List ℕ) → Lists (list_at c b s room) d d (Err q)
+    lists_no_table d = lists_refused (list_at c b s room) (Err q) counts_no_table d q refl
 
-pub no_room_is : (f : Fault) (z : Slice) (p : ℕ) (q : Outcome ℕ) → refused f z p ≡ q → said_listed (Refused (record { fault = f; slice = z; place = p })) ≡ q
-unfolding said_listed
-no_room_is f z p q e = e
-
-pub ruleset lists = (ready, lists_full, lists_whole, lists_refused, count_fits, counts_table, lists_table, counts_no_table, lists_no_table, no_room_is, refl)
+pub ruleset lists = (ready, lists_full, lists_whole, lists_refused, count_fits, counts_table, lists_table, counts_no_table, lists_no_table, refl)

@@ -1,32 +1,31 @@
 -- What is counted and stored is what the walk lists. Assumes nothing.
+use Rattle.std.proofs.Common.{Result, Ok, Err, Continue, Break}
+use Rattle.std.specs.Result.{result_from_control_flow}
 use mathlib.Core.Path.{◌≡◌, refl, sym, ap, ◌∙◌}
 use mathlib.Core.List.{List, [], ◌∷◌}
-use Prim.Native.Nat.{ℕ, ◌+◌, ◌*◌}
+use Prim.Native.Nat.{ℕ, ◌*◌}
 use native.Mathlib.Omega.{arith}
 use lib.ListN.{length, length-append}
 use Rattle.number_fixed.specs.BigEndian.{bytes_of}
-use Rattle.common.specs.Refusals.{taken, refused}
+use Rattle.common.specs.Refusals.{taken, refused, outcome}
 use Rattle.common.specs.Store.{splice}
 use Rattle.common.specs.declared.times.Bases.{Bases}
-use Rattle.common.specs.Got.{Got, got, bad, said_num}
+use Rattle.common.specs.Got.{Got, got, bad, Reading, said, within}
 use Rattle.common.specs.declared.refusal.Fault.{Fault}
+use Rattle.common.specs.declared.refusal.Refusal.{Refusal}
 use Rattle.common.specs.declared.refusal.Slice.{Slice}
 use Rattle.common.specs.declared.refusal.Slice.TheVariants.{Data}
 use Rattle.list_call.specs.Parts.{contents_items, Fitting}
-use Rattle.common.specs.declared.number.Num.{Num}
-use Rattle.common.specs.declared.number.Num.TheVariants.{Number, Refused as num-refused}
-use Rattle.common.proofs.Said.{num_got}
+use Rattle.common.proofs.Said.{tried, failed}
 use Rattle.data_contents.specs.Contents.{Contents, widths_of, contents_at, contents_of, listed, listing as contents-listing}
 use Rattle.data_contents.proofs.Lists.{walk_lists}
 use Rattle.list_count.specs.Counted.{contents_counted}
-use Rattle.list_count.proofs.Follows.{num_bad}
 use Rattle.schema_check.specs.declared.records.Counts.{Counts}
 use Rattle.call_check.specs.Tables.{Table}
 use Rattle.data_walk.specs.Walks.{start, walk_from}
 use Rattle.data_items.specs.declared.Item.{Item}
 use Rattle.list_call.specs.Records.{signed_bytes, kind_bytes, column_bytes, head_bytes, local_bytes, time_bytes, second_bytes, place_bytes, tail_bytes, record_of, records_of}
-use Rattle.list_call.specs.Lists.{counted, record_bytes, said_listed, Ready}
-use Rattle.list_call.specs.declared.lists.Listed.TheVariants.{Records, Refused}
+use Rattle.list_call.specs.Lists.{counted, record_bytes, Ready}
 
 -- ---- a record has 64 bytes
 pub length_record_of : (i : Item) → length (record_of i) ≡ 64
@@ -39,27 +38,22 @@ length_records_of [] = refl
 length_records_of (i ∷ l) = rw (length-append (record_of i) (records_of l), length_record_of i) (omega (arith, length_records_of l))
 
 -- ---- what is counted
-all_said : (x : Got (List Contents)) (v n : ℕ) → contents_counted 0 x ≡ got v n → said_listed (Records v) ≡ counted 0 (contents-listing x)
-unfolding contents_counted said_listed counted contents-listing
-all_said (got ps m) v n e = let f : 0 + length (listed ps) ≡ v = cc in ap taken (sym f)
-all_said (bad f p) v n e = let z : ◌≡◌ {A = ℕ} 0 1 = cc in absurd (omega arith)
+within_counted : (x : Got (List Contents)) → within Data (contents_counted 0 x) ≡ counted 0 (contents-listing x)
+unfolding within contents_counted counted contents-listing
+within_counted (got ps m) = refl
+within_counted (bad f p) = refl
 
-bad_said : (x : Got (List Contents)) (f : Fault) (p : ℕ) → contents_counted 0 x ≡ bad f p → said_listed (Refused (record { fault = f; slice = Data; place = p })) ≡ counted 0 (contents-listing x)
-unfolding contents_counted said_listed counted contents-listing
-bad_said (got ps m) f p e = let z : ◌≡◌ {A = ℕ} 0 1 = cc in absurd (omega arith)
-bad_said (bad g q) f p e =
-    let h : g ≡ f = cc in
-    let i : q ≡ p = cc in
-    rw (h, i) refl
-
-module _ (c : List ℕ) (k : Counts) (b : Bases) (s : List ℕ) (t : Table (length c) k) (q : Num) (e : said_num q ≡ contents_counted 0 (contents_at (widths_of c k) b s 0 (length s))) where
-  pub counts_all : (v n : ℕ) → q ≡ Number v n → said_listed (Records v) ≡ counted 0 (walk_from c k b s start)
+module _ (c : List ℕ) (k : Counts) (b : Bases) (s : List ℕ) (t : Table (length c) k) (w : Result ℕ Refusal) (q : Reading ℕ) (g : outcome w ≡ within Data (said q))
+    (e : said q ≡ contents_counted 0 (contents_at (widths_of c k) b s 0 (length s))) where
+  counts_are : outcome w ≡ counted 0 (walk_from c k b s start)
   unfolding contents_of
-  counts_all v n f = rw (walk_lists c k b s t) (all_said _ v n (num_got q _ v n e f))
+  counts_are = g ∙ ap (within Data) e ∙ within_counted _ ∙ ap (counted 0) (sym (walk_lists c k b s t))
 
-  pub counts_bad : (f : Fault) (p : ℕ) → q ≡ num-refused f p → said_listed (Refused (record { fault = f; slice = Data; place = p })) ≡ counted 0 (walk_from c k b s start)
-  unfolding contents_of
-  counts_bad f p g = rw (walk_lists c k b s t) (bad_said _ f p (num_bad q _ f p e g))
+  pub counts_all : (y : _) (v : ℕ) → w ≡ result_from_control_flow y → y ≡ Continue v → outcome (Ok v) ≡ counted 0 (walk_from c k b s start)
+  counts_all y v f h = rw (← tried w y v f h) counts_are
+
+  pub counts_bad : (y : _) (z : _) → w ≡ result_from_control_flow y → y ≡ Break z → outcome (Err z.0) ≡ counted 0 (walk_from c k b s start)
+  counts_bad y z f h = rw (← failed w y z f h) counts_are
 
 pub ruleset counting = (counts_all, counts_bad, refl)
 

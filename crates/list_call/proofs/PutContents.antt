@@ -1,21 +1,19 @@
 -- The partitions of Data stored one by one. Assumes nothing.
+use Rattle.common.specs.declared.reading.Bad.{Bad}
+use Rattle.std.proofs.Common.{Err, Ok}
 use mathlib.Core.Path.{◌≡◌, refl, sym, ap, ◌∙◌}
 use mathlib.Core.List.{List, [], ◌∷◌, ◌++◌, append_assoc}
 use Prim.Native.Nat.{ℕ, ◌+◌, ◌-◌, ◌≤◌, ◌<◌}
 use native.Mathlib.Omega.{arith}
 use borrow.Author.Tests.{eq-eqb, ne_eqb}
 use lib.ListN.{length}
-use Rattle.common.specs.Got.{Got, got, on}
+use Rattle.common.specs.Got.{Got, got, on, Reading, said}
 use Rattle.common.specs.Store.{splice, Room, Puts}
-use Rattle.common.specs.declared.refusal.Fault.{Fault}
 use Rattle.common.specs.declared.times.Bases.{Bases}
 use Rattle.common.proofs.Choose.{pick_yes, pick_no}
 use Rattle.data_field.specs.Fields.{live}
-use Rattle.data_partition.specs.Partitions.{partition_at, said_found}
+use Rattle.data_partition.specs.Partitions.{partition_at}
 use Rattle.data_partition.specs.declared.partitions.Partition.{Partition}
-use Rattle.data_partition.specs.declared.partitions.Found.{Found}
-use Rattle.data_partition.specs.declared.partitions.Found.TheVariants.{Read, Refused}
-use Rattle.data_partition.proofs.Said.{found_got}
 use Rattle.schema_check.specs.declared.records.Counts.{Counts}
 use Rattle.data_items.specs.Items.{partition_item}
 use Rattle.data_items.specs.declared.Item.{Item}
@@ -31,6 +29,7 @@ use Rattle.common.proofs.Gives.{never, got_value, got_place}
 use Rattle.list_call.proofs.PutRows.{records_both}
 use Rattle.list_call.proofs.PutEntries.{entries_of_lem}
 use Rattle.list_call.proofs.Writing.{Writing, writing_none, writing_same, writing_end, writing_room, writing_more}
+use Rattle.common.proofs.Said.{said_got}
 
 contents_of_lem : (x : Got (List Contents)) (ps : List Contents) (n : ℕ) → x ≡ got ps n → contents_items x ≡ listed ps
 unfolding contents_items
@@ -80,18 +79,18 @@ module _ (x : Got (List Contents)) (c : List ℕ) (k : Counts) (b : Bases) (s d�
     placed : ContentsIn (widths_of c k) b s p (length s) one.value one.place
     placed = (whole_gives (widths_of c k) b s p (length s)).given one.value one.place one.is
 
-    module _ (r : Found) (told : said_found r ≡ partition_at s p (length s)) where
-      pub filing_never : (y : Fault) (q : ℕ) → r ≡ Refused y q → d ≡ splice d₀ 0 (records_of (contents_items x))
-      unfolding whole_at said_found
-      filing_never y q w = never (sym (on_bad _ y q _ (sym told ∙ rw w refl)) ∙ one.is)
+    module _ (r : Reading Partition) (told : said r ≡ partition_at s p (length s)) where
+      pub filing_never : (err : Bad) → r ≡ Err err → d ≡ splice d₀ 0 (records_of (contents_items x))
+      unfolding whole_at said
+      filing_never err w = never (sym (on_bad _ err.fault err.place _ (sym told ∙ rw w refl)) ∙ one.is)
 
-      module _ (t : Partition) (m : ℕ) (w : r ≡ Read t m) where
+      module _ (t : Partition) (m : ℕ) (w : r ≡ Ok (t, m)) where
         abbrev Whole : List Entry → ℕ → Contents
         Whole es e = record { header = t; entries = es; end = e }
 
         whole_as : whole_at (widths_of c k) b s p (length s) ≡ on (entries_at (widths_of c k) b 1 live s m (length s)) (λ es e. got (Whole es e) (e + 1))
         unfolding whole_at
-        whole_as = on_got _ t m _ (found_got r _ t m told w)
+        whole_as = on_got _ t m _ (said_got r _ t m told w)
 
         inner : Parted (entries_at (widths_of c k) b 1 live s m (length s)) (λ es e. got (Whole es e) (e + 1)) one.value one.place
         inner = parted _ _ one.value one.place (sym whole_as ∙ one.is)

@@ -1,4 +1,6 @@
 -- The entries of a partition stored one by one. Assumes nothing.
+use Rattle.common.specs.declared.reading.Bad.{Bad}
+use Rattle.std.proofs.Common.{Err, Ok}
 use mathlib.Core.Path.{◌≡◌, refl, sym, ap, ◌∙◌}
 use mathlib.Core.Bool.{Bool, true, false}
 use mathlib.Core.List.{List, [], ◌∷◌, ◌++◌}
@@ -8,16 +10,12 @@ use borrow.Author.Tests.{eq-eqb, ne_eqb}
 use lib.Dec.{ltb, leb, eqb}
 use lib.ListN.{length}
 use Rattle.common.specs.Choose.{pick}
-use Rattle.common.specs.Got.{Got, got, bad, on, said_num}
+use Rattle.common.specs.Got.{Got, got, bad, on, Reading, said}
 use Rattle.common.specs.Store.{Room, Puts}
-use Rattle.common.specs.declared.refusal.Fault.{Fault}
 use Rattle.common.specs.declared.refusal.Fault.TheVariants.{OutOfTurn}
-use Rattle.common.specs.declared.number.Num.{Num}
-use Rattle.common.specs.declared.number.Num.TheVariants.{Number, Refused as num-refused}
 use Rattle.common.specs.declared.times.Bases.{Bases}
 use Rattle.common.proofs.Choose.{pick_yes, pick_no}
 use Rattle.common.proofs.Gives.{Gives, gives_got, gives_bad, gives_pick}
-use Rattle.common.proofs.Said.{num_got}
 use Rattle.data_field.specs.Fields.{live, byte_at}
 use Rattle.data_field.specs.declared.fields.Deletion.{Deletion}
 use Rattle.schema_check.specs.declared.records.Counts.{Counts}
@@ -28,7 +26,7 @@ use Rattle.data_contents.proofs.Follows.{Parted, parted}
 use Rattle.data_contents.proofs.Gives.{entry_gives, entry_moves}
 use Rattle.data_contents.proofs.Unfolds.{entries_unfold}
 use Rattle.list_count.proofs.Entries.{row_opens}
-use Rattle.list_count.proofs.Follows.{on_got, on_bad, num_bad}
+use Rattle.list_count.proofs.Follows.{on_got, on_bad}
 use Rattle.list_call.specs.Records.{record_of, records_of}
 use Rattle.list_call.specs.Parts.{entry_of, entries_of, Fitting, PutsEntry, PutsMarker, PutsEntries}
 use Rattle.list_call.specs.declared.fills.Behind.{Behind}
@@ -36,6 +34,7 @@ use Rattle.list_call.specs.declared.fills.Open.{Open}
 use Rattle.common.proofs.Gives.{never, got_value, got_place}
 use Rattle.list_call.proofs.PutRows.{records_both, entry_of_lem}
 use Rattle.list_call.proofs.Writing.{Writing, writing_none, writing_same, writing_end, writing_room, writing_more}
+use Rattle.common.proofs.Said.{said_got, said_not}
 
 byte_next : (s : List ℕ) (at end : ℕ) → Gives (byte_at s at end) (λ f n. n ≡ at + 1)
 unfolding byte_at
@@ -79,16 +78,16 @@ module _ (x : Got (List Entry)) (c : List ℕ) (k : Counts) (b : Bases) (s d₀ 
   pub storing_same : length d ≡ length d₀
   storing_same = writing_same _ d₀ d to out _ i.writing
 
-  module _ (q : Num) (told : said_num q ≡ byte_at s p (length s)) where
-    pub storing_never : (f : Fault) (y : ℕ) → q ≡ num-refused f y → (r : Behind) → PutsEntries x d₀ d to r
-    storing_never f y e r = never (sym (entries_unfold (widths_of c k) b s (length s) first opened p ∙ on_bad _ f y _ (num_bad q _ f y told e)) ∙ i.is)
+  module _ (q : Reading ℕ) (told : said q ≡ byte_at s p (length s)) where
+    pub storing_never : (err : Bad) → q ≡ Err err → (r : Behind) → PutsEntries x d₀ d to r
+    storing_never err e r = never (sym (entries_unfold (widths_of c k) b s (length s) first opened p ∙ on_bad _ err.fault err.place _ (said_not q _ err told e)) ∙ i.is)
 
-    module _ (f j : ℕ) (g : q ≡ Number f j) where
+    module _ (f j : ℕ) (g : q ≡ Ok (f, j)) where
       abbrev More : Got (List Entry)
       More = on (entry_at (widths_of c k) b first opened f s p (length s)) (λ e m. on (entries_at (widths_of c k) b 0 (open_behind opened e) s m (length s)) (λ es p. got (e ∷ es) p))
 
       here : entries_at (widths_of c k) b first opened s p (length s) ≡ pick (eqb f 1) (closed_at opened p) More
-      here = entries_unfold (widths_of c k) b s (length s) first opened p ∙ on_got _ f j _ (num_got q _ f j told g)
+      here = entries_unfold (widths_of c k) b s (length s) first opened p ∙ on_got _ f j _ (said_got q _ f j told g)
 
       module _ (h : f ≡ 1) (it : Item) (n : it ≡ end_item p) where
         last : got [] p ≡ got i.entries i.end
@@ -103,7 +102,7 @@ module _ (x : Got (List Entry)) (c : List ℕ) (k : Counts) (b : Bases) (s d₀ 
 
         pub storing_end : (d' : List ℕ) (m : ℕ) → Puts d d' out (record_of it) m → PutsEntries x d₀ d' to (record { next = j; out = m })
         storing_end d' m w = record {
-          next = λ es y e. (byte_next s p (length s)).given f j (num_got q _ f j told g) ∙ ap (λ (v : ℕ). v + 1) (got_place last ∙ i.ends es y e);
+          next = λ es y e. (byte_next s p (length s)).given f j (said_got q _ f j told g) ∙ ap (λ (v : ℕ). v + 1) (got_place last ∙ i.ends es y e);
           puts = writing_end _ d₀ d' to m [] (writing_more _ d₀ d to out _ i.writing (record_of it) [] records d' m w) refl;
         }
 

@@ -1,20 +1,19 @@
 -- A marker stored: its record and its values. Assumes nothing.
+use Rattle.common.specs.declared.reading.Bad.{Bad}
+use Rattle.std.proofs.Common.{Err, Ok}
 use mathlib.Core.Path.{◌≡◌, refl, sym, ap, ◌∙◌}
 use mathlib.Core.List.{List, ◌∷◌}
 use Prim.Native.Nat.{ℕ, ◌+◌, ◌*◌, ◌≤◌}
 use native.Mathlib.Omega.{arith}
 use lib.ListN.{length}
-use Rattle.common.specs.Got.{Got, got}
+use Rattle.common.specs.Got.{Got, got, Reading, said}
 use Rattle.common.specs.Store.{Room, Puts}
-use Rattle.common.specs.declared.refusal.Fault.{Fault}
 use Rattle.common.specs.declared.times.Bases.{Bases}
 use Rattle.data_field.specs.declared.fields.Deletion.{Deletion}
 use Rattle.data_clustering.specs.Prefixes.{values_at, widths_at}
 use Rattle.data_clustering.proofs.Loops.{widths_count}
-use Rattle.data_marker.specs.Markers.{marker_at, open_after, said_found}
+use Rattle.data_marker.specs.Markers.{marker_at, open_after}
 use Rattle.data_marker.specs.declared.markers.Marker.{Marker}
-use Rattle.data_marker.specs.declared.markers.Found.{Found}
-use Rattle.data_marker.specs.declared.markers.Found.TheVariants.{Read, Refused}
 use Rattle.data_marker.proofs.Gives.{MarkerOk}
 use Rattle.schema_check.specs.declared.records.Counts.{Counts}
 use Rattle.data_items.specs.Items.{marker_item}
@@ -57,12 +56,12 @@ module _ (c s : List ℕ) (x : Marker) (n : ℕ) (d : List ℕ) (to : ℕ) (f : 
 
 pub ruleset bounds = (bound_inside, bound_few, bound_head, bound_values, bound_puts, refl)
 
-module _ (c s : List ℕ) (k : Counts) (b : Bases) (opened : Deletion) (at : ℕ) (q : Found) (found : said_found q ≡ marker_at b (widths_at c 16 k.clustering) opened s at (length s))
+module _ (c s : List ℕ) (k : Counts) (b : Bases) (opened : Deletion) (at : ℕ) (q : Reading Marker) (found : said q ≡ marker_at b (widths_at c 16 k.clustering) opened s at (length s))
     (d : List ℕ) (to : ℕ) (fit : Fitting (marker_entry_at (widths_of c k) b opened s at (length s)) (entry_of (marker_entry_at (widths_of c k) b opened s at (length s))) d to) where
   abbrev Entry₀ : Got Entry
   Entry₀ = marker_entry_at (widths_of c k) b opened s at (length s)
 
-  module _ (x : Marker) (m : ℕ) (f : q ≡ Read x m) where
+  module _ (x : Marker) (m : ℕ) (f : q ≡ Ok (x, m)) where
     abbrev good : MarkerOk b (widths_at c 16 k.clustering) opened s at (length s) x m
     good = ok c s k b opened at q found x m f
 
@@ -97,8 +96,8 @@ module _ (c s : List ℕ) (k : Counts) (b : Bases) (opened : Deletion) (at : ℕ
       puts = rw items w;
     }
 
-  pub marker_never : (z : Fault) (x : ℕ) → q ≡ Refused z x → (r : Open) → PutsMarker Entry₀ opened d d to r
-  unfolding said_found
-  marker_never z x e r = never (sym (entry_as c s k b opened at q found ∙ on_bad _ z x _ (sym found ∙ rw e refl)) ∙ fit.is)
+  pub marker_never : (err : Bad) → q ≡ Err err → (r : Open) → PutsMarker Entry₀ opened d d to r
+  unfolding said
+  marker_never err e r = never (sym (entry_as c s k b opened at q found ∙ on_bad _ err.fault err.place _ (sym found ∙ rw e refl)) ∙ fit.is)
 
 pub ruleset markers = (marker_fits, marker_puts, marker_never)

@@ -1,11 +1,12 @@
 -- A row stored: its record, its values, its cells. Assumes nothing.
+use Rattle.std.proofs.Common.{Ok}
 use mathlib.Core.Path.{◌≡◌, refl, sym, ap, ◌∙◌}
 use mathlib.Core.List.{List, [], ◌∷◌, ◌++◌, append_assoc}
 use mathlib.Core.Option.{Option}
 use Prim.Native.Nat.{ℕ, ◌+◌, ◌*◌, ◌≤◌}
 use borrow.Author.Tests.{eq-eqb, ne_eqb}
 use lib.ListN.{length}
-use Rattle.common.specs.Got.{Got, got, on, Took}
+use Rattle.common.specs.Got.{Got, got, on, Took, Reading, said}
 use Rattle.common.specs.Store.{Room, Puts}
 use Rattle.common.specs.declared.times.Bases.{Bases}
 use Rattle.common.proofs.Choose.{pick_yes, pick_no}
@@ -16,10 +17,8 @@ use Rattle.data_cell.specs.declared.cells.Cell.{Cell}
 use Rattle.data_clustering.specs.Prefixes.{values_at, widths_at}
 use Rattle.data_clustering.proofs.Loops.{widths_count}
 use Rattle.data_row.specs.Bodies.{columns}
-use Rattle.data_row.specs.Rows.{row_at, said_found}
+use Rattle.data_row.specs.Rows.{row_at}
 use Rattle.data_row.specs.declared.rows.Row.{Row}
-use Rattle.data_row.specs.declared.rows.Found.{Found}
-use Rattle.data_row.specs.declared.rows.Found.TheVariants.{Read}
 use Rattle.schema_check.specs.declared.records.Counts.{Counts}
 use Rattle.data_items.specs.Items.{row_item}
 use Rattle.data_items.specs.declared.Item.{Item}
@@ -130,14 +129,14 @@ module _ (c s : List ℕ) (k : Counts) (b : Bases) (first at : ℕ) (d : List �
       rw (widths_count c (16 + 16 * k.clustering) k.statics, widths_count c (16 + 16 * (k.clustering + k.statics)) k.regulars) at (took_first _ _ t)
 
   module _ (r : Row) (m : ℕ) (g₀ : got r m ≡ row_at b (widths_at c 16 k.clustering) k.statics k.regulars first s at (length s)) where
-    abbrev q : Found
-    q = Read r m
+    abbrev q : Reading Row
+    q = Ok (r, m)
 
-    told : said_found q ≡ row_at b (widths_at c 16 k.clustering) k.statics k.regulars first s at (length s)
-    unfolding said_found
+    told : said q ≡ row_at b (widths_at c 16 k.clustering) k.statics k.regulars first s at (length s)
+    unfolding said
     told = g₀
 
-    f : q ≡ Read r m
+    f : q ≡ Ok (r, m)
     f = refl
 
     within : m ≤ r.body.stop

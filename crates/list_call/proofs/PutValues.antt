@@ -33,23 +33,19 @@ module _ (c s : List ℕ) (end : ℕ) where
 -- the values from column i on, and their records
 pub record Valuing (R : List ℕ) (c s : List ℕ) (k : ℕ) (d₀ d : List ℕ) (to column i h p out : ℕ) : Type 0 where
   pub inside : column + 16 * (k - i) ≤ length c
-  pub most : i ≤ k
-  pub few : k ≤ 32
   pub values : List Span
   pub place : ℕ
   pub is : values_at (widths_at c column (k - i)) h s p (length s) ≡ got values place
   pub writing : Writing R d₀ d to out (records_of (values_listed i values))
 
 module _ (c s : List ℕ) (k header at : ℕ) (d : List ℕ) (to : ℕ) where
-  pub valuing_none : 16 + 16 * k ≤ length c → k ≤ 32
+  pub valuing_none : 16 + 16 * k ≤ length c
       → Fitting (values_at (widths_at c 16 k) header s at (length s)) (values_of (values_at (widths_at c 16 k) header s at (length s))) d to
       → Valuing (records_of (values_of (values_at (widths_at c 16 k) header s at (length s)))) c s k d d to 16 0 header at to
-  valuing_none h l f =
+  valuing_none h f =
       let e : k - 0 ≡ k = omega arith in
       record {
         inside = omega arith;
-        most = omega arith;
-        few = l;
         values = f.value;
         place = f.place;
         is = rw e f.is;
@@ -70,9 +66,6 @@ module _ (R : List ℕ) (c s : List ℕ) (k : ℕ) (d₀ d : List ℕ) (to colum
   module _ (l : i < k) where
     pub valuing_index : column + 3 < length c
     valuing_index = omega (arith, v.inside)
-
-    pub valuing_sum : i + 1 < 18446744073709551616
-    valuing_sum = omega (arith, v.few)
 
     module _ (m : length c < 2 ^ 64) where
       pub valuing_width : column + 3 < 18446744073709551616
@@ -113,12 +106,10 @@ module _ (R : List ℕ) (c s : List ℕ) (k : ℕ) (d₀ d : List ℕ) (to colum
         pub valuing_more : (d' : List ℕ) (n : ℕ) → Puts d d' out (record_of it) n → Valuing R c s k d₀ d' to (column + 16) (i + 1) (h / 4) q n
         valuing_more d' n w = record {
           inside = omega (arith, v.inside);
-          most = omega arith;
-          few = v.few;
           values = behind.value;
           place = v.place;
           is = rw (← same_next) (behind.is ∙ ap (got behind.value) (got_place behind.rest));
           writing = writing_more R d₀ d to out _ v.writing _ _ records d' n w;
         }
 
-pub ruleset valuing = (valuing_none, valuing_same, valuing_end, valuing_index, valuing_sum, valuing_width, valuing_column, valuing_took, valuing_room, valuing_more)
+pub ruleset valuing = (valuing_none, valuing_same, valuing_end, valuing_index, valuing_width, valuing_column, valuing_took, valuing_room, valuing_more)

@@ -1,7 +1,8 @@
 -- The listing of Data: whether it is accepted, and then all its records. Assumes nothing.
-use Rattle.std.specs.Prelude.{ℕ, ◌+◌, ◌*◌, ◌≤◌, ◌≡◌, List, [], ltb, length}
+use Rattle.common.specs.declared.refusal.Refusal.{Refusal}
+use Rattle.std.specs.Prelude.{ℕ, ◌+◌, ◌*◌, ◌≤◌, ◌≡◌, List, [], ltb, length, Result}
 use Rattle.common.specs.Choose.{pick}
-use Rattle.common.specs.Refusals.{Outcome, taken, refused, said_refusal}
+use Rattle.common.specs.Refusals.{Outcome, taken, refused, outcome}
 use Rattle.common.specs.Store.{splice}
 use Rattle.common.specs.declared.refusal.Fault.TheVariants.{NoRoom}
 use Rattle.common.specs.declared.refusal.Slice.TheVariants.{Output}
@@ -10,8 +11,6 @@ use Rattle.call_check.specs.Tables.{after, table_at}
 use Rattle.data_items.specs.declared.Item.{Item}
 use Rattle.data_contents.specs.Contents.{contents_of}
 use Rattle.list_call.specs.Records.{records_of}
-use Rattle.list_call.specs.declared.lists.Listed.{Listed}
-use Rattle.list_call.specs.declared.lists.Listed.TheVariants.{Records, Refused}
 
 -- the items of Data in a table of the schema c and the bases b, where a buffer of room bytes is lent
 unfoldable pub list_at : List ℕ → Bases → List ℕ → ℕ → Outcome (List Item)
@@ -37,11 +36,6 @@ unfoldable pub kept : Outcome ℕ → List ℕ → List ℕ → List ℕ
 kept (taken n) w d = splice d 0 w
 kept (refused f z p) w d = d
 
--- what an answer says
-unfoldable pub said_listed : Listed → Outcome ℕ
-said_listed (Records n) = taken n
-said_listed (Refused r) = said_refusal r
-
 -- the items x are not refused, and their records fit into room bytes
 pub record Ready (x : Outcome (List Item)) (room : ℕ) : Type 0 where
   pub items : List Item
@@ -49,6 +43,6 @@ pub record Ready (x : Outcome (List Item)) (room : ℕ) : Type 0 where
   pub fits : 64 * length items ≤ room
 
 -- the listing x is stored in d, which becomes d', and r is the answer; or r tells why not, and d' is d
-pub record Lists (x : Outcome (List Item)) (d d' : List ℕ) (r : Listed) : Type 0 where
-  pub answer : said_listed r ≡ fitted (counted 0 x) (length d)
+pub record Lists (x : Outcome (List Item)) (d d' : List ℕ) (r : Result ℕ Refusal) : Type 0 where
+  pub answer : outcome r ≡ fitted (counted 0 x) (length d)
   pub buffer : d' ≡ kept (fitted (counted 0 x) (length d)) (record_bytes x) d

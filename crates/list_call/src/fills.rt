@@ -13,7 +13,6 @@ ghost use Rattle.list_call.specs.Records.{records_of};
 ghost use Rattle.list_call.specs.Parts.{cells_of, values_of, entry_of, statics_at, regulars_at, clustering_of, entries_of, contents_items, bound_of, Fitting, FittingStatic, FittingRow, FittingBound, PutsEntry, PutsMarker, PutsEntries};
 
 use crate::records;
-use common::number::Num;
 use common::times::Bases;
 use data_cell::cells::Times;
 use data_cell_reread::cells;
@@ -63,15 +62,15 @@ pub(crate) fn put_cells(
     let mut i: u64 = 0;
     let mut p = at;
     let mut out = to;
+    // A step goes to the next column that has a cell, and not over each column.
     while 0 < left {
         let skipped = u64::trailing_zeros(left);
         column += 16 * (skipped as usize);
         i += skipped as u64;
         let width = c[column + 3];
-        let known = cells::known_cell(s, p, stop, width, b, times);
-        let cell = known.cell;
+        let (cell, next) = cells::known_cell(s, p, stop, width, b, times);
         let item = data_items::cell_item(i, cell);
-        p = known.next;
+        p = next;
         column += 16;
         i += 1;
         left = (left >> skipped) / 2;
@@ -94,19 +93,16 @@ pub(crate) fn put_values(
     ensures { Puts d.old d.new to (records_of (values_of (values_at (widths_at c.now 16 k) header s.now at (length s.now)))) result }
 {
     let mut column: usize = 16;
-    let mut i: u64 = 0;
     let mut h = header;
     let mut p = at;
     let mut out = to;
-    while i < k {
+    for i in 0..k {
         let width = c[column + 3];
-        let known = prefixes::known_clustering(s, p, s.len(), width, h);
-        let value = known.value;
+        let (value, next) = prefixes::known_clustering(s, p, s.len(), width, h);
         let item = data_items::value_item(i, value);
         out = records::put_record(d, out, item);
-        p = known.next;
+        p = next;
         column += 16;
-        i += 1;
         h = h / 4;
     }
     out
@@ -176,7 +172,7 @@ fn put_row(
     requires { Table (length c.now) k × Fitting (row_entry_at (widths_of c.now k) b first s.now at (length s.now)) (entry_of (row_entry_at (widths_of c.now k) b first s.now at (length s.now))) d.old to }
     ensures { PutsEntry (row_entry_at (widths_of c.now k) b first s.now at (length s.now)) d.old d.new to result }
 {
-    let known = rows::known_row(
+    let (row, next) = rows::known_row(
         s,
         at,
         s.len(),
@@ -187,14 +183,12 @@ fn put_row(
         first,
         b,
     );
-    let row = known.row;
-    let y = row.body;
-    let stop = y.stop;
+    let stop = row.body.stop;
     if row.extended == 1 {
-        let out = put_static(c, k, b, s, row, known.next, d, to);
+        let out = put_static(c, k, b, s, row, next, d, to);
         return Behind { next: stop, out };
     }
-    let out = put_plain(c, k, b, s, row, known.next, d, to);
+    let out = put_plain(c, k, b, s, row, next, d, to);
     Behind { next: stop, out }
 }
 
@@ -224,23 +218,16 @@ fn put_marker(
     requires { Table (length c.now) k × Fitting (marker_entry_at (widths_of c.now k) b opened s.now at (length s.now)) (entry_of (marker_entry_at (widths_of c.now k) b opened s.now at (length s.now))) d.old to }
     ensures { PutsMarker (marker_entry_at (widths_of c.now k) b opened s.now at (length s.now)) opened d.old d.new to result }
 {
-    match markers::read_marker(s, at, s.len(), c, k.clustering, b, opened) {
-        markers::Found::Read { marker, next } => {
-            let deletions = marker.deletions;
-            let after = markers::open_after(marker.kind, deletions);
-            let out = put_bound(c, s, marker, next, d, to);
-            Open {
-                opened: after,
-                next,
-                out,
-            }
-        }
-        markers::Found::Refused { fault: _, place: _ } => Open {
+    let Ok((marker, next)) = markers::read_marker(s, at, s.len(), c, k.clustering, b, opened) else {
+        return Open {
             opened,
             next: at,
             out: to,
-        },
-    }
+        };
+    };
+    let opened = markers::open_after(marker.kind, marker.deletions);
+    let out = put_bound(c, s, marker, next, d, to);
+    Open { opened, next, out }
 }
 
 // The entries from at on, right behind a partition's header, and the end byte.
@@ -264,29 +251,28 @@ fn put_entries(
     };
     let mut p = at;
     let mut out = to;
+    // Where the next entry begins stands in this one: no range holds the steps.
     loop {
-        match fields::read_byte(s, p, s.len()) {
-            Num::Number { value, next } => {
-                if value == 1 {
-                    let item = data_items::end_item(p);
-                    out = records::put_record(d, out, item);
-                    return Behind { next, out };
-                }
-                if value == 2 {
-                    let behind = put_marker(c, k, b, s, opened, p, d, out);
-                    opened = behind.opened;
-                    p = behind.next;
-                    out = behind.out;
-                    first = 0;
-                    continue;
-                }
-                let behind = put_row(c, k, b, s, first, p, d, out);
-                p = behind.next;
-                out = behind.out;
-                first = 0;
-            }
-            Num::Refused { fault: _, place: _ } => return Behind { next: p, out },
+        let Ok((value, next)) = fields::read_byte(s, p, s.len()) else {
+            return Behind { next: p, out };
+        };
+        if value == 1 {
+            let item = data_items::end_item(p);
+            out = records::put_record(d, out, item);
+            return Behind { next, out };
         }
+        if value == 2 {
+            let behind = put_marker(c, k, b, s, opened, p, d, out);
+            opened = behind.opened;
+            p = behind.next;
+            out = behind.out;
+            first = 0;
+            continue;
+        }
+        let behind = put_row(c, k, b, s, first, p, d, out);
+        p = behind.next;
+        out = behind.out;
+        first = 0;
     }
 }
 
@@ -297,16 +283,15 @@ pub(crate) fn put_contents(c: &[u8], k: Counts, b: Bases, s: &[u8], d: &mut [u8]
 {
     let mut p: usize = 0;
     let mut out: usize = 0;
+    // Where the next partition begins stands in this one.
     while p != s.len() {
-        match partitions::read_partition(s, p, s.len()) {
-            partitions::Found::Read { partition, next } => {
-                let item = data_items::partition_item(partition);
-                out = records::put_record(d, out, item);
-                let behind = put_entries(c, k, b, s, next, d, out);
-                p = behind.next;
-                out = behind.out;
-            }
-            partitions::Found::Refused { fault: _, place: _ } => return,
-        }
+        let Ok((partition, next)) = partitions::read_partition(s, p, s.len()) else {
+            return;
+        };
+        let item = data_items::partition_item(partition);
+        out = records::put_record(d, out, item);
+        let behind = put_entries(c, k, b, s, next, d, out);
+        p = behind.next;
+        out = behind.out;
     }
 }

@@ -1,52 +1,35 @@
 // The listing of Data: counted in one pass, stored in a second.
 ghost use Rattle.std.specs.Prelude.{◌≡◌, ◌*◌, ◌≤◌, length};
-ghost use Rattle.common.specs.Refusals.{refused};
+ghost use Rattle.common.specs.Refusals.{refused, outcome};
 ghost use Rattle.common.specs.Store.{splice};
 ghost use Rattle.common.specs.declared.refusal.Fault.TheVariants.{NoRoom};
 ghost use Rattle.common.specs.declared.refusal.Slice.TheVariants.{Output};
 ghost use Rattle.call_check.specs.Tables.{Table};
 ghost use Rattle.data_walk.specs.Walks.{start, walk_from};
-ghost use Rattle.list_call.specs.Lists.{list_at, counted, record_bytes, said_listed, Ready, Lists};
+ghost use Rattle.list_call.specs.Lists.{list_at, counted, record_bytes, Ready, Lists};
 
 use crate::fills;
-use common::number::Num;
+use common::reading;
 use common::refusal::{Fault, Refusal, Slice};
 use common::times::Bases;
 use list_count::counts;
-use schema_check::records::{Checked, Counts};
-
-#[derive(Clone, Copy)]
-pub enum Listed {
-    // How many records there are.
-    Records(usize),
-    Refused(Refusal),
-}
+use schema_check::records::Counts;
 
 // That n records do not fit: 13 with the length needed.
-fn no_room(n: usize) -> Listed
+fn no_room(n: usize) -> Result<usize, Refusal>
     requires { n ≤ 274877906944 }
-    ensures { said_listed result ≡ refused NoRoom Output (64 * n) }
+    ensures { outcome result ≡ refused NoRoom Output (64 * n) }
 {
-    Listed::Refused(Refusal {
-        fault: Fault::NoRoom,
-        slice: Slice::Output,
-        place: 64 * n,
-    })
+    Err(Fault::NoRoom.of(Slice::Output, 64 * n))
 }
 
 // How many records the Data s has, in a table of the checked schema c.
-fn count_in(c: &[u8], k: Counts, b: Bases, s: &[u8]) -> Listed
+fn count_in(c: &[u8], k: Counts, b: Bases, s: &[u8]) -> Result<usize, Refusal>
     requires { Table (length c.now) k × (length s.now ≤ 1073741824) }
-    ensures { said_listed result ≡ counted 0 (walk_from c.now k b s.now start) }
+    ensures { outcome result ≡ counted 0 (walk_from c.now k b s.now start) }
 {
-    match counts::count_contents(c, k, b, s) {
-        Num::Number { value, next: _ } => Listed::Records(value as usize),
-        Num::Refused { fault, place } => Listed::Refused(Refusal {
-            fault,
-            slice: Slice::Data,
-            place,
-        }),
-    }
+    let value = reading::within(counts::count_contents(c, k, b, s), Slice::Data)?;
+    Ok(value as usize)
 }
 
 // Stores the records of the Data s, which fit into d.
@@ -58,38 +41,30 @@ fn fill(c: &[u8], k: Counts, b: Bases, s: &[u8], d: &mut [u8])
 }
 
 // How many records the Data has, in a table of the schema and the bases; or why it is refused.
-pub fn count(schema: &[u8], bases: Bases, data: &[u8]) -> Listed
-    ensures { said_listed result ≡ counted 0 (list_at schema.now bases «data».now 0) }
+pub fn count(schema: &[u8], bases: Bases, data: &[u8]) -> Result<usize, Refusal>
+    ensures { outcome result ≡ counted 0 (list_at schema.now bases «data».now 0) }
 {
-    match call_check::check(schema, bases, data, 0) {
-        Checked::Counted(counts) => count_in(schema, counts, bases, data),
-        Checked::Refused(refusal) => Listed::Refused(refusal),
-    }
+    let counts = call_check::check(schema, bases, data, 0)?;
+    count_in(schema, counts, bases, data)
 }
 
 // Lists the Data of a table whose schema is checked.
-fn list_in(c: &[u8], k: Counts, b: Bases, s: &[u8], d: &mut [u8]) -> Listed
+fn list_in(c: &[u8], k: Counts, b: Bases, s: &[u8], d: &mut [u8]) -> Result<usize, Refusal>
     requires { Table (length c.now) k × (length s.now ≤ 1073741824) }
     ensures { Lists (walk_from c.now k b s.now start) d.old d.new result }
 {
-    match count_in(c, k, b, s) {
-        Listed::Records(n) => {
-            if d.len() / 64 < n {
-                return no_room(n);
-            }
-            fill(c, k, b, s, d);
-            Listed::Records(n)
-        }
-        Listed::Refused(refusal) => Listed::Refused(refusal),
+    let n = count_in(c, k, b, s)?;
+    if d.len() / 64 < n {
+        return no_room(n);
     }
+    fill(c, k, b, s, d);
+    Ok(n)
 }
 
 // Lists Data into out: a record of 64 bytes for each item. Refused, or too long for out, out stays as it is.
-pub fn list(schema: &[u8], bases: Bases, data: &[u8], out: &mut [u8]) -> Listed
+pub fn list(schema: &[u8], bases: Bases, data: &[u8], out: &mut [u8]) -> Result<usize, Refusal>
     ensures { Lists (list_at schema.now bases «data».now (length out.old)) out.old out.new result }
 {
-    match call_check::check(schema, bases, data, out.len()) {
-        Checked::Counted(counts) => list_in(schema, counts, bases, data, out),
-        Checked::Refused(refusal) => Listed::Refused(refusal),
-    }
+    let counts = call_check::check(schema, bases, data, out.len())?;
+    list_in(schema, counts, bases, data, out)
 }

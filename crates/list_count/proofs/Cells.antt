@@ -1,4 +1,6 @@
 -- Cells counted: the loop goes from one column that has a cell to the next, they are read column by column. Assumes nothing.
+use Rattle.common.specs.declared.reading.Bad.{Bad}
+use Rattle.std.proofs.Common.{Err, Ok}
 use mathlib.Core.Path.{◌≡◌, refl, sym, ap, ◌∙◌}
 use mathlib.Core.Bool.{Bool, true, false}
 use mathlib.Core.List.{List, [], ◌∷◌}
@@ -12,23 +14,19 @@ use lib.Dec.{ltb}
 use lib.ListN.{length, get_or}
 use lib.Pow.{shr-shr, shr_le, pow_pos}
 use Rattle.common.specs.Choose.{pick}
-use Rattle.common.specs.Got.{Got, got, bad, on, said_num}
-use Rattle.common.specs.declared.refusal.Fault.{Fault}
+use Rattle.common.specs.Got.{Got, got, bad, on, Reading, said}
 use Rattle.common.specs.declared.refusal.Fault.TheVariants.{LeftOver}
-use Rattle.common.specs.declared.number.Num.TheVariants.{Number, Refused as num-refused}
 use Rattle.common.specs.declared.times.Bases.{Bases}
 use Rattle.common.proofs.Choose.{pick_yes, pick_no}
-use Rattle.data_cell.specs.Cells.{cell_at, said_found}
+use Rattle.data_cell.specs.Cells.{cell_at}
 use Rattle.data_cell.specs.declared.cells.Times.{Times}
 use Rattle.data_cell.specs.declared.cells.Cell.{Cell}
-use Rattle.data_cell.specs.declared.cells.Found.{Found}
-use Rattle.data_cell.specs.declared.cells.Found.TheVariants.{Read, Refused}
-use Rattle.data_cell.proofs.Said.{on_found, on_found_bad}
 use Rattle.data_clustering.specs.Prefixes.{widths_at}
 use Rattle.data_row.specs.Bodies.{columns}
 use Rattle.data_contents.specs.Contents.{cells_at, cells_listed}
 use Rattle.list_count.specs.Counted.{whole_cells_at, cells_counted}
 use Rattle.list_count.proofs.Follows.{on_same, on_on, on_got}
+use Rattle.common.proofs.Said.{on_ok, on_err}
 
 -- the column from which a list of cells is counted does not show
 pub many_cells : (i j : ℕ) (cs : List (Option Cell)) → length (cells_listed i cs) ≡ length (cells_listed j cs)
@@ -174,12 +172,12 @@ module _ (b : Bases) (row : Times) (c s : List ℕ) (stop base k present at n : 
   }
 
 module _ (z : Got ℕ) (b : Bases) (row : Times) (c s : List ℕ) (stop column left p n : ℕ) (i : Counting z b row c s stop column left p n) where
-  pub counting_over : left ≤ 0 → p < stop → said_num (num-refused LeftOver p) ≡ z
-  unfolding said_num
+  pub counting_over : left ≤ 0 → p < stop → bad LeftOver p ≡ z
+  unfolding said
   counting_over l h = pick_yes _ _ _ _ (lt-ltb p stop h) refl ∙ sym (count_last b row c s stop n column i.columns left p (omega arith)) ∙ i.rest
 
-  pub counting_end : left ≤ 0 → stop ≤ p → said_num (Number n p) ≡ z
-  unfolding said_num
+  pub counting_end : left ≤ 0 → stop ≤ p → said (Ok (n, p)) ≡ z
+  unfolding said
   counting_end l h = pick_no _ _ _ _ (le-ltb p stop h) refl ∙ sym (count_last b row c s stop n column i.columns left p (omega arith)) ∙ i.rest
 
   module _ (l : 0 < left) where
@@ -215,7 +213,7 @@ module _ (z : Got ℕ) (b : Bases) (row : Times) (c s : List ℕ) (stop column l
     pub counting_less : left / 2 ^ count_trailing_zeros 64 left / 2 < left
     counting_less = omega (arith, shr_le left (count_trailing_zeros 64 left))
 
-    pub counting_more : (r : Found) (v : Cell) (q : ℕ) → said_found r ≡ cell_at b row (get_or c (column + 16 * count_trailing_zeros 64 left + 3) 0) s p stop → r ≡ Read v q
+    pub counting_more : (r : Reading Cell) (v : Cell) (q : ℕ) → said r ≡ cell_at b row (get_or c (column + 16 * count_trailing_zeros 64 left + 3) 0) s p stop → r ≡ Ok (v, q)
         → Counting z b row c s stop (column + 16 * count_trailing_zeros 64 left + 16) (left / 2 ^ count_trailing_zeros 64 left / 2) q (n + 1)
     counting_more r v q e f = record {
       columns = next.behind;
@@ -223,12 +221,12 @@ module _ (z : Got ℕ) (b : Bases) (row : Times) (c s : List ℕ) (stop column l
       few = omega (arith, next.among, i.few);
       known = next.below;
       fits = omega (arith, next.among, i.fits);
-      rest = on_found _ _ r _ v q e f refl ∙ sym next.is ∙ i.rest;
+      rest = on_ok _ _ r _ (v, q) e f refl ∙ sym next.is ∙ i.rest;
     }
 
-    pub counting_bad : (r : Found) (f : Fault) (x : ℕ) → said_found r ≡ cell_at b row (get_or c (column + 16 * count_trailing_zeros 64 left + 3) 0) s p stop → r ≡ Refused f x
-        → said_num (num-refused f x) ≡ z
-    unfolding said_num
-    counting_bad r f x e g = on_found_bad {B = ℕ} _ _ r _ f x e g refl ∙ sym next.is ∙ i.rest
+    pub counting_bad : (r : Reading Cell) (err : Bad) → said r ≡ cell_at b row (get_or c (column + 16 * count_trailing_zeros 64 left + 3) 0) s p stop → r ≡ Err err
+        → bad err.fault err.place ≡ z
+    unfolding said
+    counting_bad r err e g = on_err {B = ℕ} _ _ r _ err e g refl ∙ sym next.is ∙ i.rest
 
 pub ruleset counting = (counting_none, counting_over, counting_end, counting_skips, counting_index, counting_fits, counting_cast, counting_product, counting_column, counting_width, counting_next, counting_less, counting_more, counting_bad)

@@ -1,4 +1,6 @@
 -- The entries of a partition, counted one by one. Assumes nothing.
+use Rattle.common.specs.declared.reading.Bad.{Bad}
+use Rattle.std.proofs.Common.{Err, Ok}
 use mathlib.Core.Path.{◌≡◌, refl, sym, ap, ◌∙◌}
 use mathlib.Core.List.{List, [], ◌∷◌}
 use Prim.Native.Nat.{ℕ, ◌+◌, ◌-◌, ◌*◌, ◌≤◌, ◌<◌}
@@ -7,15 +9,12 @@ use borrow.Author.Tests.{eq-eqb, ne_eqb}
 use lib.Dec.{eqb}
 use lib.ListN.{length, length-append}
 use Rattle.common.specs.Choose.{pick}
-use Rattle.common.specs.Got.{Got, got, bad, on, said_num}
+use Rattle.common.specs.Got.{Got, got, bad, on, Reading, said}
 use Rattle.common.specs.declared.refusal.Fault.{Fault}
 use Rattle.common.specs.declared.refusal.Fault.TheVariants.{OutOfTurn}
-use Rattle.common.specs.declared.number.Num.{Num}
-use Rattle.common.specs.declared.number.Num.TheVariants.{Number, Refused as num-refused}
 use Rattle.common.specs.declared.times.Bases.{Bases}
 use Rattle.common.proofs.Choose.{pick_yes, pick_no}
 use Rattle.common.proofs.Gives.{Gives, gives_got, gives_on, gives_pick}
-use Rattle.common.proofs.Said.{num_got}
 use Rattle.data_field.specs.Fields.{live, byte_at}
 use Rattle.data_field.specs.declared.fields.Deletion.{Deletion}
 use Rattle.schema_check.specs.declared.records.Counts.{Counts}
@@ -23,11 +22,10 @@ use Rattle.call_check.specs.Tables.{Table}
 use Rattle.data_contents.specs.Contents.{Widths, widths_of, Entry, open_behind, row_entry_at, marker_entry_at, entry_at, closed_at, entries_at, entry_listed, entries_listed}
 use Rattle.data_contents.proofs.Gives.{EntryIn, entry_gives, entry_moves}
 use Rattle.data_contents.proofs.Unfolds.{entries_unfold}
-use Rattle.list_count.specs.Counted.{entry_counted, marker_counted, entries_counted, said_passed}
-use Rattle.list_count.specs.declared.counts.Passed.{Passed}
-use Rattle.list_count.specs.declared.counts.Passed.TheVariants.{To, Refused}
-use Rattle.list_count.proofs.Follows.{on_got, on_bad, num_bad}
+use Rattle.list_count.specs.Counted.{entry_counted, marker_counted, entries_counted}
+use Rattle.list_count.proofs.Follows.{on_got, on_bad}
 use Rattle.list_count.proofs.Many.{table_few, entry_most}
+use Rattle.common.proofs.Said.{said_got, said_not}
 
 any : {A : Type 0} (x : Got A) → Gives x (λ a n. Unit)
 any x = record { given = λ a n e. tt }
@@ -78,14 +76,6 @@ passed_bad (bad y q) opened n f p d =
     let h : q ≡ p = cc in
     rw (g, h) refl
 
-passed_got : (r : Passed) (x : Got (Deletion × ℕ)) (o : Deletion) (v q : ℕ) → said_passed r ≡ x → r ≡ To o v q → x ≡ got (o, v) q
-unfolding said_passed
-passed_got r x o v q e f = sym e ∙ rw f refl
-
-passed_told : (r : Passed) (x : Got (Deletion × ℕ)) (f : Fault) (p : ℕ) → said_passed r ≡ x → r ≡ Refused f p → x ≡ bad f p
-unfolding said_passed
-passed_told r x f p e g = sym e ∙ rw g refl
-
 counted_bad : (x : Got Entry) (n : ℕ) (f : Fault) (p : ℕ) → entry_counted n x ≡ bad f p → x ≡ bad f p
 unfolding entry_counted
 counted_bad (got e m) n f p d = let z : ◌≡◌ {A = ℕ} 0 1 = cc in absurd (omega arith)
@@ -109,12 +99,12 @@ unfolding closed_at
 opened_is opened p e = pick_no _ _ _ _ (ne_eqb _ _ e) refl
 
 module _ (opened : Deletion) (p n : ℕ) where
-  pub end_closed : opened.deleted ≡ 0 → said_num (Number (n + 1) p) ≡ entries_counted n (closed_at opened p)
-  unfolding said_num entries_counted
+  pub end_closed : opened.deleted ≡ 0 → said (Ok ((n + 1), p)) ≡ entries_counted n (closed_at opened p)
+  unfolding said entries_counted
   end_closed e = ap (entries_counted n) (closed_is opened p e)
 
-  pub end_opened : (opened.deleted ≡ 0 → ⊥) → said_num (num-refused OutOfTurn p) ≡ entries_counted n (closed_at opened p)
-  unfolding said_num entries_counted
+  pub end_opened : (opened.deleted ≡ 0 → ⊥) → bad OutOfTurn p ≡ entries_counted n (closed_at opened p)
+  unfolding said entries_counted
   end_opened e = ap (entries_counted n) (opened_is opened p e)
 
 pub ruleset ends = (end_closed, end_opened)
@@ -133,23 +123,23 @@ module _ (z : Got ℕ) (c : List ℕ) (k : Counts) (b : Bases) (s : List ℕ) (f
   pub entering_many : length s ≤ 1073741824 → n ≤ 274877906944
   entering_many l = omega (arith, i.within, i.below)
 
-  module _ (q : Num) (told : said_num q ≡ byte_at s p (length s)) where
-    pub entering_cut : (f : Fault) (x : ℕ) → q ≡ num-refused f x → said_num (num-refused f x) ≡ z
-    unfolding said_num entries_counted
-    entering_cut f x e = ap (entries_counted n) (sym (entries_unfold (widths_of c k) b s (length s) first opened p ∙ on_bad _ f x _ (num_bad q _ f x told e))) ∙ i.rest
+  module _ (q : Reading ℕ) (told : said q ≡ byte_at s p (length s)) where
+    pub entering_cut : (err : Bad) → q ≡ Err err → bad err.fault err.place ≡ z
+    unfolding said entries_counted
+    entering_cut err e = ap (entries_counted n) (sym (entries_unfold (widths_of c k) b s (length s) first opened p ∙ on_bad _ err.fault err.place _ (said_not q _ err told e))) ∙ i.rest
 
-    module _ (f j : ℕ) (g : q ≡ Number f j) where
+    module _ (f j : ℕ) (g : q ≡ Ok (f, j)) where
       -- an entry and those behind it
       abbrev More : Got (List Entry)
       More = on (entry_at (widths_of c k) b first opened f s p (length s)) (λ e m. on (entries_at (widths_of c k) b 0 (open_behind opened e) s m (length s)) (λ es p. got (e ∷ es) p))
 
       here : entries_at (widths_of c k) b first opened s p (length s) ≡ pick (eqb f 1) (closed_at opened p) More
-      here = entries_unfold (widths_of c k) b s (length s) first opened p ∙ on_got _ f j _ (num_got q _ f j told g)
+      here = entries_unfold (widths_of c k) b s (length s) first opened p ∙ on_got _ f j _ (said_got q _ f j told g)
 
       closed : f ≡ 1 → entries_counted n (closed_at opened p) ≡ z
       closed e = ap (entries_counted n) (sym (here ∙ sym (pick_yes _ _ _ _ (eq-eqb f 1 e) refl))) ∙ i.rest
 
-      pub entering_closed : (x : Num) → f ≡ 1 → said_num x ≡ entries_counted n (closed_at opened p) → said_num x ≡ z
+      pub entering_closed : (x : Reading ℕ) → f ≡ 1 → said x ≡ entries_counted n (closed_at opened p) → said x ≡ z
       entering_closed x e d = d ∙ closed e
 
       module _ (h : f ≡ 1 → ⊥) where
@@ -174,19 +164,19 @@ module _ (z : Got ℕ) (c : List ℕ) (k : Counts) (b : Bases) (s : List ℕ) (f
                     ∙ i.rest);
               }
 
-        refused_by : (y : Fault) (x : ℕ) → entry_at (widths_of c k) b first opened f s p (length s) ≡ bad y x → said_num (num-refused y x) ≡ z
-        unfolding said_num entries_counted
-        refused_by y x d = ap (entries_counted n) (sym (other ∙ on_bad _ y x _ d)) ∙ i.rest
+        refused_by : (err : Bad) → entry_at (widths_of c k) b first opened f s p (length s) ≡ bad err.fault err.place → bad err.fault err.place ≡ z
+        unfolding said entries_counted
+        refused_by err d = ap (entries_counted n) (sym (other ∙ on_bad _ err.fault err.place _ d)) ∙ i.rest
 
         -- ---- a marker
-        module _ (y : f ≡ 2) (r : Passed) (found : said_passed r ≡ marker_counted n opened (marker_entry_at (widths_of c k) b opened s p (length s))) where
+        module _ (y : f ≡ 2) (r : Reading (Deletion × ℕ)) (found : said r ≡ marker_counted n opened (marker_entry_at (widths_of c k) b opened s p (length s))) where
           marker_as : entry_at (widths_of c k) b first opened f s p (length s) ≡ marker_entry_at (widths_of c k) b opened s p (length s)
           unfolding entry_at
           marker_as = sym (pick_yes _ _ _ _ (eq-eqb f 2 y) refl)
 
-          module _ (o : Deletion) (v m : ℕ) (w : r ≡ To o v m) where
+          module _ (o : Deletion) (v m : ℕ) (w : r ≡ Ok ((o, v), m)) where
             passed : PassedEntry (marker_entry_at (widths_of c k) b opened s p (length s)) opened n o v m
-            passed = passed_of _ opened n o v m (passed_got r _ o v m found w)
+            passed = passed_of _ opened n o v m (said_got r _ (o, v) m found w)
 
             pub entering_marker : Table (length c) k → Entering z c k b s 0 o m v
             entering_marker table = next table passed.entry m (marker_as ∙ passed.is) o v passed.opens passed.many
@@ -196,18 +186,18 @@ module _ (z : Got ℕ) (c : List ℕ) (k : Counts) (b : Bases) (s : List ℕ) (f
                 let x = entry_moves (widths_of c k) b s p (length s) opened passed.entry m ((entry_gives (widths_of c k) b s p (length s) first opened f).given passed.entry m (marker_as ∙ passed.is)) in
                 omega (arith, x.past, x.within)
 
-          pub marker_refused : (v : Fault) (x : ℕ) → r ≡ Refused v x → said_num (num-refused v x) ≡ z
-          marker_refused v x w = refused_by v x (marker_as ∙ passed_bad _ opened n v x (passed_told r _ v x found w))
+          pub marker_refused : (err : Bad) → r ≡ Err err → bad err.fault err.place ≡ z
+          marker_refused err w = refused_by err (marker_as ∙ passed_bad _ opened n err.fault err.place (said_not r _ err found w))
 
         -- ---- a row
-        module _ (y : f ≡ 2 → ⊥) (r : Num) (found : said_num r ≡ entry_counted n (row_entry_at (widths_of c k) b first s p (length s))) where
+        module _ (y : f ≡ 2 → ⊥) (r : Reading ℕ) (found : said r ≡ entry_counted n (row_entry_at (widths_of c k) b first s p (length s))) where
           row_as : entry_at (widths_of c k) b first opened f s p (length s) ≡ row_entry_at (widths_of c k) b first s p (length s)
           unfolding entry_at
           row_as = sym (pick_no _ _ _ _ (ne_eqb f 2 y) refl)
 
-          module _ (v m : ℕ) (w : r ≡ Number v m) where
+          module _ (v m : ℕ) (w : r ≡ Ok (v, m)) where
             counts : CountedEntry (row_entry_at (widths_of c k) b first s p (length s)) n v m
-            counts = counts_of_lem _ n v m (num_got r _ v m found w)
+            counts = counts_of_lem _ n v m (said_got r _ v m found w)
 
             pub entering_row : Table (length c) k → Entering z c k b s 0 opened m v
             entering_row table =
@@ -220,7 +210,7 @@ module _ (z : Got ℕ) (c : List ℕ) (k : Counts) (b : Bases) (s : List ℕ) (f
                 let o = entry_moves (widths_of c k) b s p (length s) opened counts.entry m ((entry_gives (widths_of c k) b s p (length s) first opened f).given counts.entry m (row_as ∙ counts.is)) in
                 omega (arith, o.past, o.within)
 
-          pub row_refused : (v : Fault) (x : ℕ) → r ≡ num-refused v x → said_num (num-refused v x) ≡ z
-          row_refused v x w = refused_by v x (row_as ∙ counted_bad _ n v x (num_bad r _ v x found w))
+          pub row_refused : (err : Bad) → r ≡ Err err → bad err.fault err.place ≡ z
+          row_refused err w = refused_by err (row_as ∙ counted_bad _ n err.fault err.place (said_not r _ err found w))
 
 pub ruleset entering = (entering_none, entering_many, entering_cut, entering_closed, entering_marker, marker_less, marker_refused, entering_row, row_less, row_refused, refl)

@@ -1,10 +1,8 @@
 -- What follows a reading. Assumes nothing.
-use mathlib.Core.Path.{◌≡◌, refl, sym, ◌∙◌}
+use mathlib.Core.Path.{◌≡◌, refl}
 use Prim.Native.Nat.{ℕ}
-use Rattle.common.specs.Got.{Got, got, bad, on, said_num}
+use Rattle.common.specs.Got.{Got, got, bad, on}
 use Rattle.common.specs.declared.refusal.Fault.{Fault}
-use Rattle.common.specs.declared.number.Num.{Num}
-use Rattle.common.specs.declared.number.Num.TheVariants.{Refused}
 
 -- it is looked at only for what is read
 pub on_same : {A B : Type 0} (x : Got A) (f g : A → ℕ → Got B) → ((a : A) (n : ℕ) → x ≡ got a n → f a n ≡ g a n) → on x f ≡ on x g
@@ -24,7 +22,3 @@ on_got x a n f e = rw e
 pub on_bad : {A B : Type 0} (x : Got A) (z : Fault) (p : ℕ) (f : A → ℕ → Got B) → x ≡ bad z p → on x f ≡ bad z p
 unfolding on
 on_bad x z p f e = rw e
-
-pub num_bad : (r : Num) (x : Got ℕ) (f : Fault) (p : ℕ) → said_num r ≡ x → r ≡ Refused f p → x ≡ bad f p
-unfolding said_num
-num_bad r x f p e g = sym e ∙ rw g refl

@@ -1,32 +1,29 @@
 -- The partitions of Data, counted one by one. Assumes nothing.
+use Rattle.common.specs.declared.reading.Bad.{Bad}
+use Rattle.std.proofs.Common.{Err, Ok}
 use mathlib.Core.Path.{◌≡◌, refl, sym, ap, ◌∙◌}
 use mathlib.Core.List.{List, ◌∷◌}
 use Prim.Native.Nat.{ℕ, ◌+◌, ◌-◌, ◌*◌, ◌^◌, ◌≤◌, ◌<◌}
 use native.Mathlib.Omega.{arith}
 use borrow.Author.Tests.{eq-eqb, ne_eqb}
 use lib.ListN.{length, length-append}
-use Rattle.common.specs.Got.{Got, got, bad, on, said_num}
+use Rattle.common.specs.Got.{Got, got, bad, on, Reading, said}
 use Rattle.common.specs.declared.refusal.Fault.{Fault}
-use Rattle.common.specs.declared.number.Num.{Num}
-use Rattle.common.specs.declared.number.Num.TheVariants.{Number, Refused as num-refused}
 use Rattle.common.specs.declared.times.Bases.{Bases}
 use Rattle.common.proofs.Choose.{pick_yes, pick_no}
-use Rattle.common.proofs.Said.{num_got}
 use Rattle.data_field.specs.Fields.{live}
 use Rattle.data_field.proofs.Ranges.{Moves}
-use Rattle.data_partition.specs.Partitions.{partition_at, said_found}
+use Rattle.data_partition.specs.Partitions.{partition_at}
 use Rattle.data_partition.specs.declared.partitions.Partition.{Partition}
-use Rattle.data_partition.specs.declared.partitions.Found.{Found}
-use Rattle.data_partition.specs.declared.partitions.Found.TheVariants.{Read, Refused}
-use Rattle.data_partition.proofs.Said.{found_got}
 use Rattle.schema_check.specs.declared.records.Counts.{Counts}
 use Rattle.call_check.specs.Tables.{Table}
 use Rattle.data_contents.specs.Contents.{widths_of, Entry, Contents, entries_at, whole_at, contents_at, entries_listed, partition_listed, listed}
 use Rattle.data_contents.proofs.Gives.{EntriesIn, Ended, entries_give, partition_moves}
 use Rattle.data_contents.proofs.Unfolds.{contents_unfold}
 use Rattle.list_count.specs.Counted.{entries_counted, contents_counted}
-use Rattle.list_count.proofs.Follows.{on_got, on_bad, num_bad}
+use Rattle.list_count.proofs.Follows.{on_got, on_bad}
 use Rattle.list_count.proofs.Many.{table_few, entries_most}
+use Rattle.common.proofs.Said.{said_got, said_not}
 
 -- what entries that were counted are
 record CountedEntries (x : Got (List Entry)) (n v q : ℕ) : Type 0 where
@@ -68,14 +65,14 @@ module _ (z : Got ℕ) (c : List ℕ) (k : Counts) (b : Bases) (s : List ℕ) (p
   pub passing_fits : length s ≤ 1073741824 → n + 1 < 18446744073709551616
   passing_fits l = omega (arith, i.within, i.below)
 
-  pub passing_end : p ≡ length s → said_num (Number n p) ≡ z
-  unfolding said_num contents_counted
+  pub passing_end : p ≡ length s → said (Ok (n, p)) ≡ z
+  unfolding said contents_counted
   passing_end e = ap (λ (x : ℕ). got x p) plus ∙ ap (contents_counted n) (sym (contents_unfold (widths_of c k) b s (length s) p i.within ∙ sym (pick_yes _ _ _ _ (eq-eqb p (length s) e) refl))) ∙ i.rest
     where
       plus : n ≡ n + 0
       plus = omega arith
 
-  module _ (h : p ≡ length s → ⊥) (r : Found) (told : said_found r ≡ partition_at s p (length s)) where
+  module _ (h : p ≡ length s → ⊥) (r : Reading Partition) (told : said r ≡ partition_at s p (length s)) where
     -- a partition and those behind it
     abbrev More : Contents → ℕ → Got (List Contents)
     More x m = on (contents_at (widths_of c k) b s m (length s)) (λ ps q. got (x ∷ ps) q)
@@ -83,17 +80,17 @@ module _ (z : Got ℕ) (c : List ℕ) (k : Counts) (b : Bases) (s : List ℕ) (p
     here : contents_at (widths_of c k) b s p (length s) ≡ on (whole_at (widths_of c k) b s p (length s)) More
     here = contents_unfold (widths_of c k) b s (length s) p i.within ∙ sym (pick_no _ _ _ _ (ne_eqb p (length s) h) refl)
 
-    refused_by : (y : Fault) (x : ℕ) → whole_at (widths_of c k) b s p (length s) ≡ bad y x → said_num (num-refused y x) ≡ z
-    unfolding said_num contents_counted
-    refused_by y x d = ap (contents_counted n) (sym (here ∙ on_bad _ y x More d)) ∙ i.rest
+    refused_by : (err : Bad) → whole_at (widths_of c k) b s p (length s) ≡ bad err.fault err.place → bad err.fault err.place ≡ z
+    unfolding said contents_counted
+    refused_by err d = ap (contents_counted n) (sym (here ∙ on_bad _ err.fault err.place More d)) ∙ i.rest
 
-    pub passing_bad : (y : Fault) (x : ℕ) → r ≡ Refused y x → said_num (num-refused y x) ≡ z
-    unfolding whole_at said_found
-    passing_bad y x w = refused_by y x (on_bad _ y x _ (sym told ∙ rw w refl))
+    pub passing_bad : (err : Bad) → r ≡ Err err → bad err.fault err.place ≡ z
+    unfolding whole_at said
+    passing_bad err w = refused_by err (on_bad _ err.fault err.place _ (sym told ∙ rw w refl))
 
-    module _ (t : Partition) (m : ℕ) (w : r ≡ Read t m) where
+    module _ (t : Partition) (m : ℕ) (w : r ≡ Ok (t, m)) where
       moved : Moves s p (length s) m
-      moved = ((partition_moves s (length s) p).given t m (found_got r _ t m told w)).0
+      moved = ((partition_moves s (length s) p).given t m (said_got r _ t m told w)).0
 
       pub passing_within : m ≤ length s
       passing_within = moved.within
@@ -106,15 +103,15 @@ module _ (z : Got ℕ) (c : List ℕ) (k : Counts) (b : Bases) (s : List ℕ) (p
 
       whole_as : whole_at (widths_of c k) b s p (length s) ≡ on (entries_at (widths_of c k) b 1 live s m (length s)) (λ es e. got (Whole es e) (e + 1))
       unfolding whole_at
-      whole_as = on_got _ t m _ (found_got r _ t m told w)
+      whole_as = on_got _ t m _ (said_got r _ t m told w)
 
-      module _ (x : Num) (inner : said_num x ≡ entries_counted (n + 1) (entries_at (widths_of c k) b 1 live s m (length s))) where
-        pub passing_refused : (y : Fault) (q : ℕ) → x ≡ num-refused y q → said_num (num-refused y q) ≡ z
-        passing_refused y q f = refused_by y q (whole_as ∙ on_bad _ y q _ (counted_bad _ (n + 1) y q (num_bad x _ y q inner f)))
+      module _ (x : Reading ℕ) (inner : said x ≡ entries_counted (n + 1) (entries_at (widths_of c k) b 1 live s m (length s))) where
+        pub passing_refused : (err : Bad) → x ≡ Err err → bad err.fault err.place ≡ z
+        passing_refused err f = refused_by err (whole_as ∙ on_bad _ err.fault err.place _ (counted_bad _ (n + 1) err.fault err.place (said_not x _ err inner f)))
 
-        module _ (v e : ℕ) (f : x ≡ Number v e) where
+        module _ (v e : ℕ) (f : x ≡ Ok (v, e)) where
           counts : CountedEntries (entries_at (widths_of c k) b 1 live s m (length s)) (n + 1) v e
-          counts = counts_of_lem _ (n + 1) v e (num_got x _ v e inner f)
+          counts = counts_of_lem _ (n + 1) v e (said_got x _ v e inner f)
 
           inside : EntriesIn (widths_of c k) b s (length s) live m counts.entries e × Ended s m (length s) e
           unfolding entries_at

@@ -7,8 +7,6 @@ use Rattle.data_field.specs.declared.fields.Deletion.{Deletion}
 use Rattle.data_cell.specs.declared.cells.Times.{Times}
 use Rattle.data_cell.specs.declared.cells.Cell.{Cell}
 use Rattle.data_contents.specs.Contents.{Entry, Contents, open_behind, cells_at, cells_listed, entry_listed, entries_listed, listed}
-use Rattle.list_count.specs.declared.counts.Passed.{Passed}
-use Rattle.list_count.specs.declared.counts.Passed.TheVariants.{To, Refused}
 
 -- the cells of columns whose widths are ws, which fill what is before stop: as `body_cells_at` of the row's times, its columns present and the
 -- body's end
@@ -36,8 +34,3 @@ entries_counted n (bad f p) = bad f p
 unfoldable pub contents_counted : ℕ → Got (List Contents) → Got ℕ
 contents_counted n (got ps p) = got (n + length (listed ps)) p
 contents_counted n (bad f p) = bad f p
-
--- what the code's answer says
-unfoldable pub said_passed : Passed → Got (Deletion × ℕ)
-said_passed (To o n p) = got (o, n) p
-said_passed (Refused f p) = bad f p

@@ -1,4 +1,5 @@
 -- The laws of big-endian numbers, once over the width. Assumes nothing.
+use Rattle.std.proofs.Common.{Ok}
 use mathlib.Core.Path.{◌≡◌, refl, sym, ap, ◌∙◌}
 use mathlib.Core.List.{List}
 use Prim.Native.Nat.{ℕ, zero, suc, ◌+◌, ◌-◌, ◌*◌, ◌/◌, ◌%◌, ◌^◌, ◌≤◌, ◌<◌}
@@ -8,14 +9,12 @@ use lib.Dec.{ltb, leb, lit<, leb→le}
 use borrow.Author.Tests.{ltb-false}
 use native.Mathlib.Omega.{arith}
 use lib.ListN.{length, get_or}
-use Rattle.common.specs.Got.{got, said_num}
-use Rattle.common.specs.declared.number.Num.{Num}
-use Rattle.common.specs.declared.number.Num.TheVariants.{Number}
+use Rattle.common.specs.Got.{got, Reading, said}
 use Rattle.number_fixed.specs.BigEndian.{big_endian, bytes_of, fixed_at}
 use Rattle.common.proofs.Choose.{cases}
 use Rattle.common.proofs.Finite.{below_at}
 use Rattle.common.proofs.Gives.{Gives, gives_got, gives_bad, gives_pick, gives_is}
-use Rattle.common.proofs.Said.{num_got}
+use Rattle.common.proofs.Said.{said_got}
 use Rattle.common.proofs.RoundTrip.{Reads}
 use Rattle.common.proofs.Stands.{Stands}
 
@@ -101,7 +100,7 @@ fixed_gives w s at end b =
     })))))
 
 -- a number that the code has read ends before the end
-pub fixed_within : (r : Num) (w : ℕ) (s : List ℕ) (at end v n : ℕ) → said_num r ≡ fixed_at w s at end → r ≡ Number v n → n ≤ end
+pub fixed_within : (r : Reading ℕ) (w : ℕ) (s : List ℕ) (at end v n : ℕ) → said r ≡ fixed_at w s at end → r ≡ Ok (v, n) → n ≤ end
 unfolding fixed_at
 fixed_within r w s at end v n e f =
     gives_is
@@ -111,7 +110,7 @@ fixed_within r w s at end v n e f =
     gives_pick (ltb end at) (λ g. gives_bad _ _) (λ g.
     gives_pick (ltb (end - at) w) (λ h. gives_bad _ _) (λ h.
     gives_got _ _ (omega (arith, ltb-false end at g, ltb-false (end - at) w h)))))))
-    (num_got r _ v n e f)
+    (said_got r _ v n e f)
 
 -- bytes that stand spell their number
 pub spelled_back : (w : ℕ) (s : List ℕ) (end at n x : ℕ) → x < 256 ^ w → Stands s end at n (bytes_of x w) → big_endian 0 s at w ≡ x

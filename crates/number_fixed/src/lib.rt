@@ -1,12 +1,12 @@
 // Fixed numbers: big-endian, of any width up to eight bytes.
 #![tactic(auto)]
 
+ghost use Rattle.common.specs.Got.{said};
 ghost use Rattle.std.specs.Prelude.{◌≡◌, ◌+◌, ◌*◌, ◌/◌, ◌%◌, ◌^◌, ◌≤◌, ◌<◌, length, get_or};
-ghost use Rattle.common.specs.Got.{said_num};
 ghost use Rattle.number_fixed.specs.BigEndian.{big_endian, bytes_of, swap_four, swap_eight, four_of, little_four, fixed_at};
 ghost use Rattle.common.specs.Store.{Room, Puts, Stores};
 
-use common::number::{Num, Stored};
+use common::reading::Reading;
 use common::refusal::Fault;
 
 // The number spelled by acc and the n bytes from at on.
@@ -16,48 +16,31 @@ pub fn big_endian(s: &[u8], at: usize, n: usize, acc: u64) -> u64
     ensures { result ≡ big_endian acc s.now at n }
 {
     let mut v = acc;
-    let mut i: usize = 0;
-    while i < n {
+    for i in 0..n {
         let b = s[at + i] as u64;
         v = v * 256 + b;
-        i += 1;
     }
     v
 }
 
 // The number of `width` bytes at at, before end.
 // Internal: for the crates above.
-pub fn read(s: &[u8], at: usize, end: usize, width: usize) -> Num
-    ensures { said_num result ≡ fixed_at width s.now at end }
+pub fn read(s: &[u8], at: usize, end: usize, width: usize) -> Reading<u64>
+    ensures { said result ≡ fixed_at width s.now at end }
 {
     if 8 < width {
-        return Num::Refused {
-            fault: Fault::OutOfRange,
-            place: at,
-        };
+        return Err(Fault::OutOfRange.at(at));
     }
     if s.len() < end {
-        return Num::Refused {
-            fault: Fault::PastEnd,
-            place: at,
-        };
+        return Err(Fault::PastEnd.at(at));
     }
     if end < at {
-        return Num::Refused {
-            fault: Fault::PastEnd,
-            place: at,
-        };
+        return Err(Fault::PastEnd.at(at));
     }
     if end - at < width {
-        return Num::Refused {
-            fault: Fault::PastEnd,
-            place: at,
-        };
+        return Err(Fault::PastEnd.at(at));
     }
-    Num::Number {
-        value: big_endian(s, at, width, 0),
-        next: at + width,
-    }
+    Ok((big_endian(s, at, width, 0), at + width))
 }
 
 // The four lowest bytes of x in the other order. Sums like these, written out, compile to one instruction; loops over bytes do not.
@@ -160,10 +143,8 @@ fn put_each(d: &mut [u8], at: usize, n: usize, x: u64) -> usize
     requires { Room d.old at (bytes_of x n) }
     ensures { Puts d.old d.new at (bytes_of x n) result }
 {
-    let mut i: usize = 0;
-    while i < n {
+    for i in 0..n {
         d[at + i] = byte_of(x, n - 1 - i);
-        i += 1;
     }
     at + n
 }
@@ -218,14 +199,14 @@ pub fn put_in(d: &mut [u8], at: usize, n: usize, x: u64) -> usize
 }
 
 // Stores the n lowest bytes of x at at, highest first, where they fit.
-pub fn put(d: &mut [u8], at: usize, n: usize, x: u64) -> Stored
+pub fn put(d: &mut [u8], at: usize, n: usize, x: u64) -> Option<usize>
     ensures { Stores d.old d.new at (bytes_of x n) result }
 {
     if d.len() < at {
-        return Stored::Full;
+        return None;
     }
     if d.len() - at < n {
-        return Stored::Full;
+        return None;
     }
-    Stored::At(put_in(d, at, n, x))
+    Some(put_in(d, at, n, x))
 }

@@ -1,5 +1,6 @@
 -- The laws of varints: what is read of one in every case, that what stands is read back in every form, and that no form is shorter than
 -- the shortest. Assumes nothing.
+use Rattle.std.proofs.Common.{Ok}
 use mathlib.Core.Path.{◌≡◌, refl, sym, ap, ◌∙◌}
 use mathlib.Core.Bool.{Bool, true}
 use mathlib.Core.List.{List}
@@ -11,9 +12,7 @@ use lib.Dec.{ltb, leb, eqb, T, eqb→eq}
 use lib.ListN.{length, get_or, set, length-set}
 use lib.Pow.{pow_mono}
 use Rattle.common.specs.Choose.{pick, bind}
-use Rattle.common.specs.Got.{got, bad, said_num, Took}
-use Rattle.common.specs.declared.number.Num.{Num}
-use Rattle.common.specs.declared.number.Num.TheVariants.{Number}
+use Rattle.common.specs.Got.{got, bad, Took, Reading, said}
 use Rattle.number_fixed.specs.BigEndian.{big_endian, bytes_of}
 use Rattle.number_varint.specs.Varints.{leading, low, varint_at, form, extra, shortest}
 use Rattle.common.specs.Store.{Room, Puts}
@@ -25,7 +24,7 @@ use Rattle.number_varint.proofs.Cuts.{cut_out}
 use Rattle.number_varint.proofs.Marker.{leading_small, low_small, leading_le, low_lt, low_fits}
 use Rattle.number_varint.proofs.Shortest.{extra_le, extra_fewest, top_lt, length_form, length_shortest}
 use Rattle.common.proofs.Gives.{Gives, gives_got, gives_bad, gives_pick, gives_bind, gives_is}
-use Rattle.common.proofs.Said.{num_got}
+use Rattle.common.proofs.Said.{said_got}
 use Rattle.common.proofs.Took.{past, took_past}
 use Rattle.common.proofs.RoundTrip.{Reads}
 use Rattle.common.proofs.Splices.{splice_cons}
@@ -143,9 +142,9 @@ varint_ends s at end =
     })))))
 
 -- the same of a varint that the code has read
-module _ (r : Num) (s : List ℕ) (at end v n : ℕ) (e : said_num r ≡ varint_at s at end) (f : r ≡ Number v n) where
+module _ (r : Reading ℕ) (s : List ℕ) (at end v n : ℕ) (e : said r ≡ varint_at s at end) (f : r ≡ Ok (v, n)) where
   ends : Ends s at end n
-  ends = gives_is (varint_ends s at end) (num_got r _ v n e f)
+  ends = gives_is (varint_ends s at end) (said_got r _ v n e f)
 
   pub varint_within : n ≤ end
   varint_within = ends.within

@@ -2,11 +2,11 @@
 #![tactic(auto)]
 
 ghost use Rattle.std.specs.Prelude.{◌≡◌, ◌+◌, ◌-◌, ◌/◌, ◌^◌, length};
-ghost use Rattle.common.specs.Got.{got, said_num, Took};
+ghost use Rattle.common.specs.Got.{got, Took, said};
 ghost use Rattle.number_varint.specs.Varints.{leading, varint_at, extra, shortest};
 ghost use Rattle.common.specs.Store.{Room, Puts, Stores};
 
-use common::number::{Known, Num, Stored};
+use common::reading::Reading;
 use common::refusal::Fault;
 
 // How many one bits lead b.
@@ -18,63 +18,41 @@ fn ones(b: u8) -> usize
 
 // The varint at at, before end, where it is known that one stands there: nothing is tested again.
 // Internal: for code that has read it before.
-pub fn known(s: &[u8], at: usize, end: usize) -> Known
+pub fn known(s: &[u8], at: usize, end: usize) -> (u64, usize)
     requires { Took (varint_at s.now at end) }
-    ensures { got result.value result.next ≡ varint_at s.now at end }
+    ensures { got result.0 result.1 ≡ varint_at s.now at end }
 {
     let b = s[at];
     // Most varints of a table have one byte.
     if b < 128 {
-        return Known {
-            value: b as u64,
-            next: at + 1,
-        };
+        return (b as u64, at + 1);
     }
     let n = ones(b);
     // The eight bytes from the first on, or of nine the last; the marker goes out at the top, what follows the varint below.
     let w = number_fixed::eight(s, at + n / 8);
-    Known {
-        value: (w << (n % 8)) >> (56 - 7 * n),
-        next: at + 1 + n,
-    }
+    ((w << (n % 8)) >> (56 - 7 * n), at + 1 + n)
 }
 
 // The varint at at, before end, of any form.
 // Internal: for the crates above.
-pub fn read(s: &[u8], at: usize, end: usize) -> Num
-    ensures { said_num result ≡ varint_at s.now at end }
+pub fn read(s: &[u8], at: usize, end: usize) -> Reading<u64>
+    ensures { said result ≡ varint_at s.now at end }
 {
     if s.len() < end {
-        return Num::Refused {
-            fault: Fault::PastEnd,
-            place: at,
-        };
+        return Err(Fault::PastEnd.at(at));
     }
     if end <= at {
-        return Num::Refused {
-            fault: Fault::PastEnd,
-            place: at,
-        };
+        return Err(Fault::PastEnd.at(at));
     }
     let b = s[at];
     if b < 128 {
-        return Num::Number {
-            value: b as u64,
-            next: at + 1,
-        };
+        return Ok((b as u64, at + 1));
     }
     let n = ones(b);
     if end - at <= n {
-        return Num::Refused {
-            fault: Fault::PastEnd,
-            place: at,
-        };
+        return Err(Fault::PastEnd.at(at));
     }
-    let varint = known(s, at, end);
-    Num::Number {
-        value: varint.value,
-        next: varint.next,
-    }
+    Ok(known(s, at, end))
 }
 
 // How many bytes follow the first in the shortest varint of x: one for each seven bits behind the first seven, at most 8.
@@ -120,14 +98,14 @@ pub fn put_in(d: &mut [u8], at: usize, x: u64) -> usize
 }
 
 // Stores the shortest varint of x at at, where it fits.
-pub fn put(d: &mut [u8], at: usize, x: u64) -> Stored
+pub fn put(d: &mut [u8], at: usize, x: u64) -> Option<usize>
     ensures { Stores d.old d.new at (shortest x) result }
 {
     if d.len() < at {
-        return Stored::Full;
+        return None;
     }
     if d.len() - at < len(x) {
-        return Stored::Full;
+        return None;
     }
-    Stored::At(put_in(d, at, x))
+    Some(put_in(d, at, x))
 }

@@ -61,6 +61,6 @@ pub fn put_refusal(d: &mut [u8], at: usize, r: Refusal) -> usize
 {
     let fault = r.fault;
     let slice = r.slice;
-    let next = put_words(d, at, refusal::fault_number(fault) as u64);
+    let next = put_words(d, at, u8::from(fault) as u64);
     put_where(d, next, slice, r.place)
 }

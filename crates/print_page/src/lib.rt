@@ -8,9 +8,8 @@ ghost use Rattle.print_page.specs.Pages.{page_in, page_at, len_of, Fills};
 use common::times::Bases;
 use data_walk::cursors::Cursor;
 use data_walk::steps;
-use data_walk::steps::Step;
 use print_line::{line, refusals};
-use schema_check::records::{Checked, Counts};
+use schema_check::records::Counts;
 
 // How many bytes of a page are filled, and whether there is more.
 #[derive(Clone, Copy)]
@@ -28,18 +27,16 @@ fn fill(c: &[u8], k: Counts, b: Bases, s: &[u8], first: Cursor, d: &mut [u8]) ->
 {
     let mut x = first;
     let mut at: usize = 0;
-    let mut i: usize = 0;
-    while i < 16 {
+    for _ in 0..16usize {
         match steps::step_in(c, k, b, s, x) {
-            Step::Next { item, cursor } => {
+            Ok(Some((item, cursor))) => {
                 at = line::put_line(d, at, item);
                 x = cursor;
-                i += 1;
             }
-            Step::Done => {
+            Ok(None) => {
                 return Filled::Last(at);
             }
-            Step::Refused(refusal) => {
+            Err(refusal) => {
                 return Filled::Last(refusals::put_refusal(d, at, refusal));
             }
         }
@@ -61,7 +58,7 @@ pub fn fill_page(
     ensures result_bound { len_of result ≤ 4032 }
 {
     match call_check::check(schema, bases, data, 0) {
-        Checked::Counted(counts) => fill(schema, counts, bases, data, cursor, page),
-        Checked::Refused(refusal) => Filled::Last(refusals::put_refusal(page, 0, refusal)),
+        Ok(counts) => fill(schema, counts, bases, data, cursor, page),
+        Err(refusal) => Filled::Last(refusals::put_refusal(page, 0, refusal)),
     }
 }

@@ -1,4 +1,3 @@
-pub mod Said
 pub mod Lines
 pub mod Fields
 pub mod Runs

@@ -8,14 +8,15 @@ use native.Mathlib.Decide.{dec_le}
 use borrow.Author.Tests.{lt-ltb, ne_eqb, eq-eqb, ltb-true, ltb-false}
 use lib.Dec.{ltb}
 use lib.ListN.{length}
+use Rattle.std.proofs.Common.{Ok, Err}
 use Rattle.common.specs.Choose.{pick, bind}
-use Rattle.common.specs.Got.{Got, got, bad, on}
+use Rattle.common.specs.Got.{Got, got, bad, on, said}
+use Rattle.common.specs.Refusals.{bad_at}
 use Rattle.common.specs.declared.refusal.Fault.TheVariants.{BadRecord}
 use Rattle.common.proofs.Choose.{pick_yes, pick_no, pick_ind}
-use Rattle.schema_check.specs.Records.{role_at, none, given, count_of, most_of, is_first, is_passed, in_turn, with_one, record_at, records_at, schema_at, said_found}
+use Rattle.schema_check.specs.Records.{role_at, none, given, count_of, most_of, is_first, is_passed, in_turn, with_one, record_at, records_at, schema_at}
 use Rattle.schema_check.specs.Runs.{is_of, run_of}
 use Rattle.schema_check.specs.declared.records.Counts.{Counts}
-use Rattle.schema_check.specs.declared.records.Found.TheVariants.{Records, Bad}
 use Rattle.schema_check.proofs.Runs.{none_left, run_most, run_stop}
 use Rattle.schema_check.proofs.Fields.{of_parts, of_given, given_role}
 
@@ -126,8 +127,8 @@ module _ (limit : ℕ) (s : List ℕ) where
   no_more role at f w e g = clash (sym f ∙ of_given limit role s at w e g)
 
   module _ (k : ℕ) (ek : k ≡ run_of limit 0 s (most_of 0) 0) where
-    pub whole_no_key : k ≡ 0 → said_found (Bad BadRecord 0) ≡ schema_at limit s
-    unfolding said_found schema_at most_of pick
+    pub whole_no_key : k ≡ 0 → said (Err (bad_at BadRecord 0)) ≡ schema_at limit s
+    unfolding said schema_at most_of pick
     whole_no_key z = go (dec_le (length s) 0)
       where
         stop : is_of limit 0 s 0 ≡ false
@@ -158,12 +159,12 @@ module _ (limit : ℕ) (s : List ℕ) where
           (run_all limit 2 s (with_statics a) (λ n. refl) (λ n. refl) b _ eb
           (run_all limit 1 s with_clustering_lem (λ n. refl) (λ n. refl) a _ ea key))
 
-      pub whole_all : length s ≤ 16 + 16 * a + 16 * b + 16 * d → said_found (Records (with_regulars a b d) (16 + 16 * a + 16 * b + 16 * d)) ≡ schema_at limit s
-      unfolding said_found
+      pub whole_all : length s ≤ 16 + 16 * a + 16 * b + 16 * d → said (Ok (with_regulars a b d, 16 + 16 * a + 16 * b + 16 * d)) ≡ schema_at limit s
+      unfolding said
       whole_all l = checking_end limit s _ _ runs l
 
-      pub whole_more_lem : 16 + 16 * a + 16 * b + 16 * d < length s → said_found (Bad BadRecord (16 + 16 * a + 16 * b + 16 * d)) ≡ schema_at limit s
-      unfolding said_found most_of pick
+      pub whole_more_lem : 16 + 16 * a + 16 * b + 16 * d < length s → said (Err (bad_at BadRecord (16 + 16 * a + 16 * b + 16 * d))) ≡ schema_at limit s
+      unfolding said most_of pick
       whole_more_lem l =
           fails limit s _ _ runs l
           (λ w g t.

@@ -5,16 +5,12 @@
 use Rattle.std.specs.Prelude.{ℕ, zero, suc, ◌+◌, ◌-◌, ◌/◌, Bool, true, false, List, ltb, leb, eqb, length, get_or}
 use Rattle.common.specs.Choose.{pick, bind}
 use Rattle.common.specs.Got.{Got, got, bad, Reader, ◌>>=◌, ret, within}
-use Rattle.common.specs.Refusals.{Outcome, taken, refused, said_refusal}
+use Rattle.common.specs.Refusals.{Outcome, refused}
 use Rattle.number_fixed.specs.BigEndian.{big_endian}
 use Rattle.common.specs.declared.refusal.Fault.TheVariants.{OverLimit, BadRecord}
 use Rattle.common.specs.declared.refusal.Slice.TheVariants.{Schema}
 use Rattle.type_table.specs.Table.{line_of, is_line, reversed_line}
 use Rattle.schema_check.specs.declared.records.Counts.{Counts}
-use Rattle.schema_check.specs.declared.records.Found.{Found}
-use Rattle.schema_check.specs.declared.records.Found.TheVariants.{Records, Bad}
-use Rattle.schema_check.specs.declared.records.Checked.{Checked}
-use Rattle.schema_check.specs.declared.records.Checked.TheVariants.{Counted, Refused}
 
 -- ---- the fields of the record at place at
 unfoldable pub role_at : List ℕ → ℕ → ℕ
@@ -128,12 +124,3 @@ anywhere = 8589934592
 -- what checking a schema answers
 unfoldable pub schema_of : ℕ → List ℕ → Outcome Counts
 schema_of limit s = pick (ltb 1073741824 (length s)) (refused OverLimit Schema 0) (within Schema (schema_at limit s))
-
--- what the code's answer says
-unfoldable pub said_checked : Checked → Outcome Counts
-said_checked (Counted c) = taken c
-said_checked (Refused r) = said_refusal r
-
-unfoldable pub said_found : Found → Got Counts
-said_found (Records c n) = got c n
-said_found (Bad f p) = bad f p

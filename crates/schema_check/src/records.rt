@@ -1,9 +1,13 @@
 // Whether schema records are ones that Statistics gives.
 ghost use Rattle.std.specs.Prelude.{◌≡◌, ◌+◌, ◌*◌, ◌≤◌, length};
+ghost use Rattle.common.specs.Got.{said};
+ghost use Rattle.common.specs.Refusals.{outcome};
 ghost use Rattle.type_table.specs.Table.{line_of};
-ghost use Rattle.schema_check.specs.Records.{name_at, name_len_at, is_line_of, is_name_of, is_kind_of, most_of, schema_at, anywhere, schema_of, said_found, said_checked};
+ghost use Rattle.schema_check.specs.Records.{name_at, name_len_at, is_line_of, is_name_of, is_kind_of, most_of, schema_at, anywhere, schema_of};
 ghost use Rattle.schema_check.specs.Runs.{all_widths, is_of, lesser_of, run_of};
 
+use common::reading;
+use common::reading::Reading;
 use common::refusal::{Fault, Refusal, Slice};
 
 // How many columns of each role there are.
@@ -13,18 +17,6 @@ pub struct Counts {
     pub clustering: u64,
     pub statics: u64,
     pub regulars: u64,
-}
-
-#[derive(Clone, Copy)]
-enum Found {
-    Records { counts: Counts, next: usize },
-    Bad { fault: Fault, place: usize },
-}
-
-#[derive(Clone, Copy)]
-pub enum Checked {
-    Counted(Counts),
-    Refused(Refusal),
 }
 
 // The lines that a record may have, a bit for each: of key and clustering columns all 34 but Reversed's own, 24; of static and regular
@@ -174,28 +166,22 @@ fn run(limit: u64, widths: &[u8; 35], role: u8, s: &[u8], from: usize) -> usize
     ensures { (result ≡ run_of limit role s.now (most_of role) from) × (from + 16 * result ≤ length s.now) }
 {
     let most = lesser((s.len() - from) / 16, most_of(role));
-    let mut n: usize = 0;
-    while n < most {
-        if is_of(limit, widths, role, s, from + 16 * n) {
-            n += 1;
-        } else {
+    for n in 0..most {
+        if !is_of(limit, widths, role, s, from + 16 * n) {
             return n;
         }
     }
-    n
+    most
 }
 
 // The records of a whole schema, role by role: each role's tests are then few, and its count stays in a local.
-fn read_records(limit: u64, s: &[u8]) -> Found
-    ensures { said_found result ≡ schema_at limit s.now }
+fn read_records(limit: u64, s: &[u8]) -> Reading<Counts>
+    ensures { said result ≡ schema_at limit s.now }
 {
     let widths = WIDTHS;
     let keys = run(limit, &widths, 0, s, 0);
     if keys == 0 {
-        return Found::Bad {
-            fault: Fault::BadRecord,
-            place: 0,
-        };
+        return Err(Fault::BadRecord.at(0));
     }
     let clustering = run(limit, &widths, 1, s, 16);
     let a = 16 + 16 * clustering;
@@ -204,53 +190,39 @@ fn read_records(limit: u64, s: &[u8]) -> Found
     let regulars = run(limit, &widths, 3, s, b);
     let end = b + 16 * regulars;
     if end < s.len() {
-        return Found::Bad {
-            fault: Fault::BadRecord,
-            place: end,
-        };
+        return Err(Fault::BadRecord.at(end));
     }
-    Found::Records {
-        counts: Counts {
+    Ok((
+        Counts {
             keys: 1,
             clustering: clustering as u64,
             statics: statics as u64,
             regulars: regulars as u64,
         },
-        next: end,
-    }
+        end,
+    ))
 }
 
 // The records, where a name's place lies before limit.
-fn check_within(limit: u64, schema: &[u8]) -> Checked
-    ensures { said_checked result ≡ schema_of limit schema.now }
+fn check_within(limit: u64, schema: &[u8]) -> Result<Counts, Refusal>
+    ensures { outcome result ≡ schema_of limit schema.now }
 {
     if 1073741824 < schema.len() {
-        return Checked::Refused(Refusal {
-            fault: Fault::OverLimit,
-            slice: Slice::Schema,
-            place: 0,
-        });
+        return Err(Fault::OverLimit.of(Slice::Schema, 0));
     }
-    match read_records(limit, schema) {
-        Found::Records { counts, next: _ } => Checked::Counted(counts),
-        Found::Bad { fault, place } => Checked::Refused(Refusal {
-            fault,
-            slice: Slice::Schema,
-            place,
-        }),
-    }
+    reading::within(read_records(limit, schema), Slice::Schema)
 }
 
 // Checks the records of a schema where names are not read.
-pub fn check(schema: &[u8]) -> Checked
-    ensures { said_checked result ≡ schema_of anywhere schema.now }
+pub fn check(schema: &[u8]) -> Result<Counts, Refusal>
+    ensures { outcome result ≡ schema_of anywhere schema.now }
 {
     check_within(8589934592, schema)
 }
 
 // Checks the records of a schema, each with its name's place in Statistics.
-pub fn check_named(schema: &[u8], statistics: &[u8]) -> Checked
-    ensures { said_checked result ≡ schema_of (length statistics.now) schema.now }
+pub fn check_named(schema: &[u8], statistics: &[u8]) -> Result<Counts, Refusal>
+    ensures { outcome result ≡ schema_of (length statistics.now) schema.now }
 {
     check_within(statistics.len() as u64, schema)
 }

@@ -7,12 +7,12 @@ use native.Mathlib.Omega.{arith}
 use borrow.Author.Tests.{eq-eqb, ne_eqb}
 use lib.Dec.{eqb}
 use lib.ListN.{length, get_or}
+use Rattle.std.proofs.Common.{Some, None}
 use Rattle.common.specs.Choose.{pick}
 use Rattle.common.proofs.Choose.{pick_yes, pick_no}
 use Rattle.type_table.specs.Table.{line_of}
 use Rattle.schema_check.specs.Records.{role_at, line_at}
 use Rattle.schema_column.specs.Columns.{same_column, same_from, same_schemas, unordered_from, unordered_of}
-use Rattle.schema_column.specs.declared.Unordered.TheVariants.{At, None}
 
 -- ---- two schemas: the first i records are equal
 pub record Alike (s t v u : List ℕ) (n i : ℕ) : Type 0 where
@@ -71,7 +71,7 @@ module _ (s : List ℕ) (n : ℕ) (size : n ≡ length s / 16) where
 
     module _ (l : i < n) where
       order_step : pick (eqb (get_or s (16 * i) 0) 1)
-          (pick (line_of (get_or s (16 * i + 1) 0)).ordered (unordered_from (n - (i + 1)) s (16 * i + 16)) (At (16 * i)))
+          (pick (line_of (get_or s (16 * i + 1) 0)).ordered (unordered_from (n - (i + 1)) s (16 * i + 16)) (Some (16 * i)))
           (unordered_from (n - (i + 1)) s (16 * i + 16))
           ≡ unordered_of s
       unfolding unordered_from role_at line_at
@@ -89,7 +89,7 @@ module _ (s : List ℕ) (n : ℕ) (size : n ≡ length s / 16) where
         pub ordered_more : r ≡ true → Ordered s n (i + 1)
         ordered_more f = record { within = omega arith; rest = rw (← order_next) (pick_yes _ _ _ _ (eq-eqb _ _ m) (pick_yes _ _ _ _ (sym e ∙ f) refl) ∙ order_step) }
 
-        pub ordered_not : r ≡ false → At (16 * i) ≡ unordered_of s
+        pub ordered_not : r ≡ false → Some (16 * i) ≡ unordered_of s
         ordered_not f = pick_yes _ _ _ _ (eq-eqb _ _ m) (pick_no _ _ _ _ (sym e ∙ f) refl) ∙ order_step
 
 pub ruleset ordered = (ordered_none, ordered_end, ordered_other, ordered_more, ordered_not)

@@ -1,15 +1,11 @@
 -- One column of a schema, and when two schemas are equal. Assumes nothing.
-use Rattle.std.specs.Prelude.{ℕ, zero, suc, ◌+◌, ◌*◌, ◌/◌, Bool, true, false, List, leb, eqb, length}
+use Rattle.std.specs.Prelude.{ℕ, zero, suc, ◌+◌, ◌*◌, ◌/◌, Bool, true, false, List, leb, eqb, length, Option, Some, None}
 use Rattle.common.specs.Choose.{pick}
 use Rattle.common.specs.Store.{shown}
 use Rattle.type_table.specs.Table.{line_of}
 use Rattle.text.specs.Text.{same}
 use Rattle.schema_check.specs.Records.{role_at, line_at, mark_at, width_at, name_at, name_len_at}
 use Rattle.schema_column.specs.declared.Column.{Column}
-use Rattle.schema_column.specs.declared.Unordered.{Unordered}
-use Rattle.schema_column.specs.declared.Unordered.TheVariants.{At, None}
-use Rattle.schema_column.specs.declared.Found.{Found}
-use Rattle.schema_column.specs.declared.Found.TheVariants.{Is, Absent}
 
 -- the column whose record stands at place at
 unfoldable pub column_at : List ℕ → ℕ → Column
@@ -23,8 +19,8 @@ column_at s at = record {
 }
 
 -- the column of record i, from 0, where there is such a record
-unfoldable pub column_of : List ℕ → ℕ → Found
-column_of s i = pick (leb (length s / 16) i) Absent (Is (column_at s (16 * i)))
+unfoldable pub column_of : List ℕ → ℕ → Option Column
+column_of s i = pick (leb (length s / 16) i) None (Some (column_at s (16 * i)))
 
 -- the bytes of a name in the Statistics t; none where its place is outside
 unfoldable pub name_of : List ℕ → List ℕ → ℕ → List ℕ
@@ -50,12 +46,12 @@ unfoldable pub same_schemas : List ℕ → List ℕ → List ℕ → List ℕ �
 same_schemas s t v u = pick (eqb (length s) (length v)) (same_from (length s / 16) s t v u 0) false
 
 -- "7 for an unordered type": the first clustering record from at on, of k, whose type has no order
-unfoldable pub unordered_from : ℕ → List ℕ → ℕ → Unordered
+unfoldable pub unordered_from : ℕ → List ℕ → ℕ → Option ℕ
 unordered_from zero s at = None
 unordered_from (suc k) s at =
     pick (eqb (role_at s at) 1)
-    (pick (line_of (line_at s at)).ordered (unordered_from k s (at + 16)) (At at))
+    (pick (line_of (line_at s at)).ordered (unordered_from k s (at + 16)) (Some at))
     (unordered_from k s (at + 16))
 
-unfoldable pub unordered_of : List ℕ → Unordered
+unfoldable pub unordered_of : List ℕ → Option ℕ
 unordered_of s = unordered_from (length s / 16) s 0

@@ -17,19 +17,6 @@ pub struct Column {
     pub len: u64,
 }
 
-#[derive(Clone, Copy)]
-pub enum Found {
-    Is(Column),
-    Absent,
-}
-
-#[derive(Clone, Copy)]
-pub enum Unordered {
-    // The place of the first clustering record whose type has no order.
-    At(usize),
-    None,
-}
-
 // The column whose record stands at at.
 fn column_at(s: &[u8], at: usize) -> Column
     requires { at + 16 ≤ length s.now }
@@ -47,13 +34,13 @@ fn column_at(s: &[u8], at: usize) -> Column
 
 // Column i of a schema, from 0.
 // Internal: for the crates above.
-pub fn column_of(schema: &[u8], i: usize) -> Found
+pub fn column_of(schema: &[u8], i: usize) -> Option<Column>
     ensures { result ≡ column_of schema.now i }
 {
     if schema.len() / 16 <= i {
-        return Found::Absent;
+        return None;
     }
-    Found::Is(column_at(schema, 16 * i))
+    Some(column_at(schema, 16 * i))
 }
 
 // The bytes of the name of the record at at, in the Statistics beside the schema.
@@ -91,34 +78,25 @@ pub fn is_same(a: &[u8], t: &[u8], b: &[u8], u: &[u8]) -> bool
         return false;
     }
     let n = a.len() / 16;
-    let mut i: usize = 0;
-    while i < n {
-        if is_same_column(a, t, b, u, 16 * i) {
-            i += 1;
-            continue;
+    for i in 0..n {
+        if !is_same_column(a, t, b, u, 16 * i) {
+            return false;
         }
-        return false;
     }
     true
 }
 
-// The first clustering record whose type has no order.
+// The place of the first clustering record whose type has no order.
 // Internal: for the crates above.
-pub fn first_unordered(schema: &[u8]) -> Unordered
+pub fn first_unordered(schema: &[u8]) -> Option<usize>
     ensures { result ≡ unordered_of schema.now }
 {
     let n = schema.len() / 16;
-    let mut i: usize = 0;
-    while i < n {
+    for i in 0..n {
         let at = 16 * i;
-        if schema[at] == 1 {
-            if type_table::is_ordered(schema[at + 1]) {
-                i += 1;
-                continue;
-            }
-            return Unordered::At(at);
+        if schema[at] == 1 && !type_table::is_ordered(schema[at + 1]) {
+            return Some(at);
         }
-        i += 1;
     }
-    Unordered::None
+    None
 }

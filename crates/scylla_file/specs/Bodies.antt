@@ -1,11 +1,9 @@
 -- The bodies of features, extension attributes and run identifier (tags 2, 3 and 4), each filled exactly. Assumes nothing.
 use Rattle.std.specs.Prelude.{ℕ, ◌+◌}
-use Rattle.common.specs.Got.{Got, got, bad, on, Reader, ◌>>=◌, filled}
+use Rattle.common.specs.Got.{got, on, Reader, ◌>>=◌, filled}
 use Rattle.number_fixed.specs.BigEndian.{fixed_at}
 use Rattle.scylla_sharding.specs.Regions.{length_at, times}
 use Rattle.scylla_file.specs.declared.body.Uuid.{Uuid}
-use Rattle.scylla_file.specs.declared.body.RunAnswer.{RunAnswer}
-use Rattle.scylla_file.specs.declared.body.RunAnswer.TheVariants.{Read, Refused}
 
 -- "features = be64 // interpreted as a set of bits"
 unfoldable pub features_at : Reader ℕ
@@ -29,8 +27,3 @@ uuid high low = record { high = high; low = low }
 -- "run_identifier = uuid", "uuid = uuid_high_bits uuid_low_bits", both be64
 unfoldable pub run_at : Reader Uuid
 run_at = fixed_at 8 >>= (λ high. fixed_at 8 >>= (λ low. filled (uuid high low)))
-
--- what the code's answer says, where it reads a run identifier
-unfoldable pub said_run : RunAnswer → Got Uuid
-said_run (Read u n) = got u n
-said_run (Refused f p) = bad f p

@@ -1,8 +1,8 @@
 -- Scylla.db: "Layout as 000; tags 1 to 4 known, at most once each, filled exactly; others are skipped by their size." Assumes nothing.
 use Rattle.std.specs.Prelude.{ℕ, ◌+◌, ◌-◌, Bool, false, List, ltb, eqb, length}
 use Rattle.common.specs.Choose.{pick}
-use Rattle.common.specs.Got.{Got, got, bad, on, Reader, ◌>>=◌, filled, within}
-use Rattle.common.specs.Refusals.{Outcome, taken, refused, said_refusal}
+use Rattle.common.specs.Got.{got, bad, on, Reader, ◌>>=◌, filled, within}
+use Rattle.common.specs.Refusals.{Outcome, refused}
 use Rattle.number_fixed.specs.BigEndian.{fixed_at}
 use Rattle.common.specs.declared.refusal.Fault.TheVariants.{OverLimit, Repeated}
 use Rattle.common.specs.declared.refusal.Slice.TheVariants.{Scylla}
@@ -12,10 +12,6 @@ use Rattle.scylla_file.specs.Bodies.{features_at, attributes_at, uuid, run_at}
 use Rattle.scylla_file.specs.declared.body.Uuid.{Uuid}
 use Rattle.scylla_file.specs.declared.component.Place.{Place}
 use Rattle.scylla_file.specs.declared.component.Components.{Components}
-use Rattle.scylla_file.specs.declared.component.ComponentsAnswer.{ComponentsAnswer}
-use Rattle.scylla_file.specs.declared.component.ComponentsAnswer.TheVariants.{Read, Refused as components-refused}
-use Rattle.scylla_file.specs.declared.Answer.{Answer}
-use Rattle.scylla_file.specs.declared.Answer.TheVariants.{Taken, Refused}
 
 abbrev pub place : ℕ → ℕ → Place
 place offset length = record { offset = offset; length = length }
@@ -77,12 +73,3 @@ file_at = fixed_at 4 >>= (λ k. times component_at k absent >>= (λ c. filled c)
 -- what reading the file gives: "The answer gives feature bits, run identifier and each component's place"
 unfoldable pub scylla_of : List ℕ → Outcome Components
 scylla_of s = pick (ltb 1073741824 (length s)) (refused OverLimit Scylla 0) (within Scylla (file_at s 0 (length s)))
-
--- ---- what the code's answers say
-unfoldable pub said_components : ComponentsAnswer → Got Components
-said_components (Read c n) = got c n
-said_components (components-refused f p) = bad f p
-
-unfoldable pub said_scylla : Answer → Outcome Components
-said_scylla (Taken c) = taken c
-said_scylla (Refused r) = said_refusal r

@@ -1,14 +1,13 @@
 // The components of Scylla.db.
 ghost use Rattle.std.specs.Prelude.{◌≡◌, ◌≤◌};
-ghost use Rattle.common.specs.Got.{said_num};
-ghost use Rattle.scylla_file.specs.Components.{said_components, absent, with_sharding, with_features, with_attributes, with_run, is_seen, tag_at, body_at, component_at};
+ghost use Rattle.common.specs.Got.{said};
+ghost use Rattle.scylla_file.specs.Components.{absent, with_sharding, with_features, with_attributes, with_run, is_seen, tag_at, body_at, component_at};
 
 use crate::body;
-use crate::body::{RunAnswer, Uuid};
-use common::number::Num;
+use crate::body::Uuid;
+use common::reading::Reading;
 use common::refusal::Fault;
 use scylla_sharding::region;
-use scylla_sharding::region::Passed;
 
 // Where a component's body stands, behind tag and size.
 #[derive(Clone, Copy)]
@@ -29,13 +28,6 @@ pub struct Components {
     pub features: Place,
     pub attributes: Place,
     pub run: Place,
-}
-
-// The answer of a call that reads components.
-#[derive(Clone, Copy)]
-pub enum ComponentsAnswer {
-    Read { components: Components, next: usize },
-    Refused { fault: Fault, place: usize },
 }
 
 // No component.
@@ -71,135 +63,89 @@ fn is_seen(c: Components, tag: u64) -> bool
 }
 
 // A tag, and not a known one's second.
-fn read_tag(file: &[u8], at: usize, end: usize, c: Components) -> Num
-    ensures { said_num result ≡ tag_at c file.now at end }
+fn read_tag(file: &[u8], at: usize, end: usize, c: Components) -> Reading<u64>
+    ensures { said result ≡ tag_at c file.now at end }
 {
-    match number_fixed::read(file, at, end, 4) {
-        Num::Number { value, next } => {
-            if is_seen(c, value) {
-                return Num::Refused {
-                    fault: Fault::Repeated,
-                    place: at,
-                };
-            }
-            Num::Number { value, next }
-        }
-        Num::Refused { fault, place } => Num::Refused { fault, place },
+    let (tag, next) = number_fixed::read(file, at, end, 4)?;
+    if is_seen(c, tag) {
+        return Err(Fault::Repeated.at(at));
     }
+    Ok((tag, next))
 }
 
 // c with sharding metadata, whose body stands from at up to end.
-fn with_sharding(file: &[u8], at: usize, end: usize, mut c: Components) -> ComponentsAnswer
+fn with_sharding(file: &[u8], at: usize, end: usize, mut c: Components) -> Reading<Components>
     requires { at ≤ end }
-    ensures { said_components result ≡ with_sharding c file.now at end }
+    ensures { said result ≡ with_sharding c file.now at end }
 {
-    match scylla_sharding::read(file, at, end) {
-        Passed::To(next) => {
-            let body = Place {
-                offset: at,
-                length: end - at,
-            };
-            c.sharding = body;
-            ComponentsAnswer::Read {
-                components: c,
-                next,
-            }
-        }
-        Passed::Refused { fault, place } => ComponentsAnswer::Refused { fault, place },
-    }
+    let next = scylla_sharding::read(file, at, end)?;
+    c.sharding = Place {
+        offset: at,
+        length: end - at,
+    };
+    Ok((c, next))
 }
 
 // c with features, whose body stands from at up to end.
-fn with_features(file: &[u8], at: usize, end: usize, mut c: Components) -> ComponentsAnswer
+fn with_features(file: &[u8], at: usize, end: usize, mut c: Components) -> Reading<Components>
     requires { at ≤ end }
-    ensures { said_components result ≡ with_features c file.now at end }
+    ensures { said result ≡ with_features c file.now at end }
 {
-    match body::read_features(file, at, end) {
-        Num::Number { value, next } => {
-            let body = Place {
-                offset: at,
-                length: end - at,
-            };
-            c.bits = value;
-            c.features = body;
-            ComponentsAnswer::Read {
-                components: c,
-                next,
-            }
-        }
-        Num::Refused { fault, place } => ComponentsAnswer::Refused { fault, place },
-    }
+    let (bits, next) = body::read_features(file, at, end)?;
+    c.bits = bits;
+    c.features = Place {
+        offset: at,
+        length: end - at,
+    };
+    Ok((c, next))
 }
 
 // c with extension attributes, whose body stands from at up to end.
-fn with_attributes(file: &[u8], at: usize, end: usize, mut c: Components) -> ComponentsAnswer
+fn with_attributes(file: &[u8], at: usize, end: usize, mut c: Components) -> Reading<Components>
     requires { at ≤ end }
-    ensures { said_components result ≡ with_attributes c file.now at end }
+    ensures { said result ≡ with_attributes c file.now at end }
 {
-    match body::skip_attributes(file, at, end) {
-        Passed::To(next) => {
-            let body = Place {
-                offset: at,
-                length: end - at,
-            };
-            c.attributes = body;
-            ComponentsAnswer::Read {
-                components: c,
-                next,
-            }
-        }
-        Passed::Refused { fault, place } => ComponentsAnswer::Refused { fault, place },
-    }
+    let next = body::skip_attributes(file, at, end)?;
+    c.attributes = Place {
+        offset: at,
+        length: end - at,
+    };
+    Ok((c, next))
 }
 
 // c with a run identifier, whose body stands from at up to end.
-fn with_run(file: &[u8], at: usize, end: usize, mut c: Components) -> ComponentsAnswer
+fn with_run(file: &[u8], at: usize, end: usize, mut c: Components) -> Reading<Components>
     requires { at ≤ end }
-    ensures { said_components result ≡ with_run c file.now at end }
+    ensures { said result ≡ with_run c file.now at end }
 {
-    match body::read_run(file, at, end) {
-        RunAnswer::Read { uuid, next } => {
-            let body = Place {
-                offset: at,
-                length: end - at,
-            };
-            c.uuid = uuid;
-            c.run = body;
-            ComponentsAnswer::Read {
-                components: c,
-                next,
-            }
-        }
-        RunAnswer::Refused { fault, place } => ComponentsAnswer::Refused { fault, place },
-    }
+    let (uuid, next) = body::read_run(file, at, end)?;
+    c.uuid = uuid;
+    c.run = Place {
+        offset: at,
+        length: end - at,
+    };
+    Ok((c, next))
 }
 
 // c with the component of that tag, whose body stands from at up to end.
-fn read_body(file: &[u8], tag: u64, at: usize, end: usize, c: Components) -> ComponentsAnswer
+fn read_body(file: &[u8], tag: u64, at: usize, end: usize, c: Components) -> Reading<Components>
     requires { at ≤ end }
-    ensures { said_components result ≡ body_at tag c file.now at end }
+    ensures { said result ≡ body_at tag c file.now at end }
 {
     match tag {
         1 => with_sharding(file, at, end, c),
         2 => with_features(file, at, end, c),
         3 => with_attributes(file, at, end, c),
         4 => with_run(file, at, end, c),
-        _ => ComponentsAnswer::Read {
-            components: c,
-            next: end,
-        },
+        _ => Ok((c, end)),
     }
 }
 
 // The component at at, before end, c what those before it gave.
-pub(crate) fn read(file: &[u8], at: usize, end: usize, c: Components) -> ComponentsAnswer
-    ensures { said_components result ≡ component_at c file.now at end }
+pub(crate) fn read(file: &[u8], at: usize, end: usize, c: Components) -> Reading<Components>
+    ensures { said result ≡ component_at c file.now at end }
 {
-    match read_tag(file, at, end, c) {
-        Num::Number { value: tag, next } => match region::read_length(file, next, end, 4) {
-            Num::Number { value, next } => read_body(file, tag, next, next + value as usize, c),
-            Num::Refused { fault, place } => ComponentsAnswer::Refused { fault, place },
-        },
-        Num::Refused { fault, place } => ComponentsAnswer::Refused { fault, place },
-    }
+    let (tag, next) = read_tag(file, at, end, c)?;
+    let (size, next) = region::read_length(file, next, end, 4)?;
+    read_body(file, tag, next, next + size as usize, c)
 }

@@ -8,11 +8,10 @@ use lib.Dec.{ltb}
 use lib.ListN.{length}
 use mir.Syntax.{w64}
 use mir.Val.{Fits}
-use Rattle.common.specs.Got.{said_num}
+use Rattle.std.proofs.Common.{Ok}
+use Rattle.common.specs.Got.{Reading, said}
 use Rattle.number_fixed.specs.BigEndian.{fixed_at}
-use Rattle.common.specs.declared.number.Num.{Num}
-use Rattle.common.specs.declared.number.Num.TheVariants.{Number}
-use Rattle.common.proofs.Said.{num_got}
+use Rattle.common.proofs.Said.{said_got}
 use Rattle.common.proofs.Gives.{Gives, gives_got, gives_bad, gives_pick, gives_on, gives_is}
 use Rattle.scylla_sharding.specs.Regions.{length_at}
 
@@ -42,13 +41,13 @@ module _ (w : ℕ) (s : List ℕ) (at end : ℕ) where
       gives_pick (ltb (end - n) z) (λ d. gives_bad _ _) (λ d.
       gives_got _ _ (record { within = omega (arith, ltb-false (end - n) z d, h.within); inside = h.inside })))
 
-  module _ (r : Num) (v n : ℕ) where
-    pub fixed_ends : said_num r ≡ fixed_at w s at end → r ≡ Number v n → n ≤ end
-    fixed_ends e f = (gives_is fixed_gives (num_got r _ v n e f)).within
+  module _ (r : Reading ℕ) (v n : ℕ) where
+    pub fixed_ends : said r ≡ fixed_at w s at end → r ≡ Ok (v, n) → n ≤ end
+    fixed_ends e f = (gives_is fixed_gives (said_got r _ v n e f)).within
 
-    pub length_fits : length s < 2 ^ 64 → said_num r ≡ length_at w s at end → r ≡ Number v n → Fits w64 (n + v)
+    pub length_fits : length s < 2 ^ 64 → said r ≡ length_at w s at end → r ≡ Ok (v, n) → Fits w64 (n + v)
     length_fits h e f =
-        let g = gives_is length_gives (num_got r _ v n e f) in
+        let g = gives_is length_gives (said_got r _ v n e f) in
         omega (arith, g.within, g.inside)
 
 pub ruleset ends = (fixed_ends, length_fits)

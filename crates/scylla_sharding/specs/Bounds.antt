@@ -2,21 +2,14 @@
 use Rattle.std.specs.Prelude.{ℕ, Bool, true, false, not, ltb, eqb}
 use Rattle.common.specs.Choose.{pick}
 use Rattle.common.specs.Times.{biased}
-use Rattle.common.specs.Got.{Got, got, bad, on, Reader, ◌>>=◌, ret}
+use Rattle.common.specs.Got.{got, bad, on, Reader, ◌>>=◌, ret}
 use Rattle.number_fixed.specs.BigEndian.{fixed_at}
 use Rattle.common.specs.declared.refusal.Fault.TheVariants.{BadFlags, NotCarried}
 use Rattle.scylla_sharding.specs.Regions.{length_at}
 use Rattle.scylla_sharding.specs.declared.bound.Bound.{Bound}
-use Rattle.scylla_sharding.specs.declared.bound.BoundAnswer.{BoundAnswer}
-use Rattle.scylla_sharding.specs.declared.bound.BoundAnswer.TheVariants.{Read, Refused}
 
 abbrev pub bound : ℕ → ℕ → Bound
 bound exclusive token = record { exclusive = exclusive; token = token }
-
--- what the code's answer says, where it reads a bound
-unfoldable pub said_bound : BoundAnswer → Got Bound
-said_bound (Read b n) = got b n
-said_bound (Refused f p) = bad f p
 
 -- "exclusive_flag = byte // 0=inclusive, 1=exclusive"; above 1 it is 4
 unfoldable pub flag_at : Reader ℕ

@@ -4,8 +4,6 @@ use Rattle.common.specs.Choose.{pick}
 use Rattle.common.specs.Got.{Got, got, bad, on, Reader, ◌>>=◌, ret}
 use Rattle.number_fixed.specs.BigEndian.{fixed_at}
 use Rattle.common.specs.declared.refusal.Fault.TheVariants.{PastEnd}
-use Rattle.scylla_sharding.specs.declared.region.Passed.{Passed}
-use Rattle.scylla_sharding.specs.declared.region.Passed.TheVariants.{To, Refused}
 
 -- a length of w bytes: 2 at the length where what it announces passes the end
 unfoldable pub length_at : ℕ → Reader ℕ
@@ -19,8 +17,3 @@ times f (suc k) a = f a >>= (λ b. times f k b)
 -- what is read, but for its value
 unfoldable pub passed : {A : Type 0} → Got A → Got (Unit {0})
 passed x = on x (λ a n. got tt n)
-
--- what the code's answer says, where it keeps no value
-unfoldable pub said_passed : Passed → Got (Unit {0})
-said_passed (To n) = got tt n
-said_passed (Refused f p) = bad f p

@@ -1,10 +1,10 @@
 // Bounds of token ranges, and their order.
 ghost use Rattle.std.specs.Prelude.{◌≡◌};
-ghost use Rattle.common.specs.Got.{said_num};
-ghost use Rattle.scylla_sharding.specs.Bounds.{said_bound, flag_at, token_at, bound_at, both_inclusive, is_range, is_next};
+ghost use Rattle.common.specs.Got.{said};
+ghost use Rattle.scylla_sharding.specs.Bounds.{flag_at, token_at, bound_at, both_inclusive, is_range, is_next};
 
 use crate::region;
-use common::number::Num;
+use common::reading::Reading;
 use common::refusal::Fault;
 use common::times;
 
@@ -17,72 +17,36 @@ pub struct Bound {
     pub token: u64,
 }
 
-// The answer of a call that reads a bound.
-#[derive(Clone, Copy)]
-pub enum BoundAnswer {
-    Read { bound: Bound, next: usize },
-    Refused { fault: Fault, place: usize },
-}
-
 // An exclusive flag.
-fn read_flag(file: &[u8], at: usize, end: usize) -> Num
-    ensures { said_num result ≡ flag_at file.now at end }
+fn read_flag(file: &[u8], at: usize, end: usize) -> Reading<u64>
+    ensures { said result ≡ flag_at file.now at end }
 {
-    match number_fixed::read(file, at, end, 1) {
-        Num::Number { value, next } => {
-            if 1 < value {
-                return Num::Refused {
-                    fault: Fault::BadFlags,
-                    place: at,
-                };
-            }
-            Num::Number { value, next }
-        }
-        Num::Refused { fault, place } => Num::Refused { fault, place },
+    let (value, next) = number_fixed::read(file, at, end, 1)?;
+    if 1 < value {
+        return Err(Fault::BadFlags.at(at));
     }
+    Ok((value, next))
 }
 
 // A token, plus 2^63.
-fn read_token(file: &[u8], at: usize, end: usize) -> Num
-    ensures { said_num result ≡ token_at file.now at end }
+fn read_token(file: &[u8], at: usize, end: usize) -> Reading<u64>
+    ensures { said result ≡ token_at file.now at end }
 {
-    match region::read_length(file, at, end, 2) {
-        Num::Number { value, next } => {
-            if value == 8 {
-                return match number_fixed::read(file, next, end, 8) {
-                    Num::Number { value, next } => Num::Number {
-                        value: times::biased_of(value),
-                        next,
-                    },
-                    Num::Refused { fault, place } => Num::Refused { fault, place },
-                };
-            }
-            Num::Refused {
-                fault: Fault::NotCarried,
-                place: at,
-            }
-        }
-        Num::Refused { fault, place } => Num::Refused { fault, place },
+    let (len, next) = region::read_length(file, at, end, 2)?;
+    if len == 8 {
+        let (bits, next) = number_fixed::read(file, next, end, 8)?;
+        return Ok((times::biased_of(bits), next));
     }
+    Err(Fault::NotCarried.at(at))
 }
 
 // A bound.
-pub(crate) fn read(file: &[u8], at: usize, end: usize) -> BoundAnswer
-    ensures { said_bound result ≡ bound_at file.now at end }
+pub(crate) fn read(file: &[u8], at: usize, end: usize) -> Reading<Bound>
+    ensures { said result ≡ bound_at file.now at end }
 {
-    match read_flag(file, at, end) {
-        Num::Number {
-            value: exclusive,
-            next,
-        } => match read_token(file, next, end) {
-            Num::Number { value: token, next } => BoundAnswer::Read {
-                bound: Bound { exclusive, token },
-                next,
-            },
-            Num::Refused { fault, place } => BoundAnswer::Refused { fault, place },
-        },
-        Num::Refused { fault, place } => BoundAnswer::Refused { fault, place },
-    }
+    let (exclusive, next) = read_flag(file, at, end)?;
+    let (token, next) = read_token(file, next, end)?;
+    Ok((Bound { exclusive, token }, next))
 }
 
 fn both_inclusive(a: Bound, b: Bound) -> bool

@@ -5,15 +5,14 @@ use Prim.Native.Nat.{ℕ, ◌≤◌, ◌<◌}
 use native.Mathlib.Omega.{arith}
 use borrow.Author.Tests.{lt-ltb, le-ltb}
 use lib.ListN.{length}
-use Rattle.common.specs.Got.{said_num}
-use Rattle.common.specs.Refusals.{fault_number, taken, refused}
+use Rattle.std.proofs.Common.{Ok, Err}
+use Rattle.common.specs.Got.{Reading, said}
+use Rattle.common.specs.Refusals.{fault_number, taken, refused, bad_at}
 use Rattle.common.specs.Store.{Room, Puts}
 use Rattle.number_varint.specs.Varints.{shortest, varint_at}
 use Rattle.common.specs.declared.refusal.Fault.{Fault}
 use Rattle.common.specs.declared.refusal.Fault.TheVariants.{OverLimit, NoRoom}
 use Rattle.common.specs.declared.refusal.Slice.TheVariants.{Data, Output}
-use Rattle.common.specs.declared.number.Num.{Num}
-use Rattle.common.specs.declared.number.Num.TheVariants.{Number, Refused}
 use Rattle.common.proofs.Choose.{pick_yes, pick_no}
 use Rattle.sstable.specs.Varints.{number_in, varint_read, varint_put, varint_stored, VarintPut}
 use Rattle.sstable_words.proofs.Words.{words_taken, words_refused}
@@ -24,13 +23,13 @@ module _ (s : List ℕ) (at end : ℕ) where
   unfolding varint_read
   read_over h = words_refused _ _ OverLimit Data _ _ _ (pick_yes _ _ _ _ (lt-ltb _ _ h) refl) refl refl
 
-  pub read_is : (r : Num) (v n : ℕ) → length s ≤ 1073741824 → said_num r ≡ varint_at s at end → r ≡ Number v n → 0 ∷ 0 ∷ 0 ∷ v ∷ n ∷ [] ≡ varint_read s at end
-  unfolding varint_read said_num number_in
+  pub read_is : (r : Reading ℕ) (v n : ℕ) → length s ≤ 1073741824 → said r ≡ varint_at s at end → r ≡ Ok (v, n) → 0 ∷ 0 ∷ 0 ∷ v ∷ n ∷ [] ≡ varint_read s at end
+  unfolding varint_read said number_in
   read_is r v n h e f = words_taken _ _ _ (pick_no _ _ _ _ (le-ltb _ _ h) (rw (← e, f)))
 
-  pub read_bad : (r : Num) (f : Fault) (m p : ℕ) → length s ≤ 1073741824 → said_num r ≡ varint_at s at end → r ≡ Refused f p → m ≡ fault_number f
+  pub read_bad : (r : Reading ℕ) (f : Fault) (m p : ℕ) → length s ≤ 1073741824 → said r ≡ varint_at s at end → r ≡ Err (bad_at f p) → m ≡ fault_number f
       → m ∷ 3 ∷ p ∷ 0 ∷ 0 ∷ [] ≡ varint_read s at end
-  unfolding varint_read said_num number_in
+  unfolding varint_read said number_in
   read_bad r f m p h e g k = words_refused _ _ f Data _ _ _ (pick_no _ _ _ _ (le-ltb _ _ h) (rw (← e, g))) k refl
 
 pub ruleset reads_varint = (read_over, read_is, read_bad)

@@ -1,9 +1,10 @@
 -- The calls of the C interface for Statistics.db and schema tables. Assumes nothing.
-use Rattle.std.specs.Prelude.{ℕ, ◌≡◌, List, [], ◌∷◌}
+use Rattle.std.specs.Prelude.{ℕ, ◌≡◌, List, [], ◌∷◌, Result}
+use Rattle.common.specs.Refusals.{outcome}
 use Rattle.common.specs.Times.{biased}
-use Rattle.schema_check.specs.Records.{schema_of, said_checked}
+use Rattle.common.specs.declared.refusal.Refusal.{Refusal}
+use Rattle.schema_check.specs.Records.{schema_of}
 use Rattle.schema_check.specs.declared.records.Counts.{Counts}
-use Rattle.schema_check.specs.declared.records.Checked.{Checked}
 use Rattle.stats_file.specs.Statistics.{statistics_of, schema_in}
 use Rattle.stats_file.specs.declared.Table.{Table}
 use Rattle.sstable_words.specs.Words.{words, mapped}
@@ -39,5 +40,5 @@ unfoldable pub schema_words : ℕ → List ℕ → List ℕ
 schema_words limit s = words (0 ∷ 0 ∷ 0 ∷ []) (mapped count_words (schema_of limit s))
 
 -- the words that the code's answer says
-unfoldable pub checked_words : Checked → List ℕ
-checked_words c = words (0 ∷ 0 ∷ 0 ∷ []) (mapped count_words (said_checked c))
+unfoldable pub checked_words : Result Counts Refusal → List ℕ
+checked_words c = words (0 ∷ 0 ∷ 0 ∷ []) (mapped count_words (outcome c))

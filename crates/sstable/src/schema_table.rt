@@ -4,28 +4,24 @@ ghost use Rattle.schema_check.specs.Records.{anywhere};
 ghost use Rattle.schema_column.specs.Columns.{same_schemas};
 ghost use Rattle.sstable.specs.Statistics.{schema_words, checked_words};
 
-use common::refusal;
+use common::refusal::Refusal;
 use schema_check::records;
-use schema_check::records::Checked;
+use schema_check::records::Counts;
 
 // The words of an answer.
-fn checked_words(c: Checked) -> [u64; 6]
+fn checked_words(c: Result<Counts, Refusal>) -> [u64; 6]
     ensures { result ≡ checked_words c }
 {
     match c {
-        Checked::Counted(n) => [0, 0, 0, n.clustering, n.statics, n.regulars],
-        Checked::Refused(r) => {
-            let fault = r.fault;
-            let slice = r.slice;
-            [
-                refusal::fault_number(fault) as u64,
-                refusal::slice_number(slice) as u64,
-                r.place as u64,
-                0,
-                0,
-                0,
-            ]
-        }
+        Ok(n) => [0, 0, 0, n.clustering, n.statics, n.regulars],
+        Err(r) => [
+            u8::from(r.fault) as u64,
+            u8::from(r.slice) as u64,
+            r.place as u64,
+            0,
+            0,
+            0,
+        ],
     }
 }
 

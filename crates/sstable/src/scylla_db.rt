@@ -2,15 +2,12 @@
 ghost use Rattle.std.specs.Prelude.{◌≡◌};
 ghost use Rattle.sstable.specs.Scylla.{scylla_read};
 
-use common::refusal;
-use scylla_file::Answer;
-
 // The words of `sstable_scylla_read`.
 fn read_words(file: &[u8]) -> [u64; 14]
     ensures { result ≡ scylla_read file.now }
 {
     match scylla_file::read(file) {
-        Answer::Taken(c) => [
+        Ok(c) => [
             0,
             0,
             0,
@@ -26,26 +23,22 @@ fn read_words(file: &[u8]) -> [u64; 14]
             c.run.offset as u64,
             c.run.length as u64,
         ],
-        Answer::Refused(r) => {
-            let fault = r.fault;
-            let slice = r.slice;
-            [
-                refusal::fault_number(fault) as u64,
-                refusal::slice_number(slice) as u64,
-                r.place as u64,
-                0,
-                0,
-                0,
-                0,
-                0,
-                0,
-                0,
-                0,
-                0,
-                0,
-                0,
-            ]
-        }
+        Err(r) => [
+            u8::from(r.fault) as u64,
+            u8::from(r.slice) as u64,
+            r.place as u64,
+            0,
+            0,
+            0,
+            0,
+            0,
+            0,
+            0,
+            0,
+            0,
+            0,
+            0,
+        ],
     }
 }
 

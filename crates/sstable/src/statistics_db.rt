@@ -3,14 +3,13 @@ ghost use Rattle.std.specs.Prelude.{◌≡◌};
 ghost use Rattle.sstable.specs.Statistics.{StatisticsRead};
 
 use common::{refusal, times};
-use stats_file::Answer;
 
 // The words of `sstable_statistics_read`.
 fn read_words(file: &[u8], schema: &mut [u8]) -> [u64; 12]
     ensures { StatisticsRead file.now schema.old schema.new result }
 {
     match stats_file::read(file, schema) {
-        Answer::Read(t) => [
+        Ok(t) => [
             0,
             0,
             0,
@@ -24,24 +23,20 @@ fn read_words(file: &[u8], schema: &mut [u8]) -> [u64; 12]
             t.sizes.statics,
             t.sizes.regulars,
         ],
-        Answer::Refused(r) => {
-            let fault = r.fault;
-            let slice = r.slice;
-            [
-                refusal::fault_number(fault) as u64,
-                refusal::slice_number(slice) as u64,
-                r.place as u64,
-                0,
-                0,
-                0,
-                0,
-                0,
-                0,
-                0,
-                0,
-                0,
-            ]
-        }
+        Err(r) => [
+            u8::from(r.fault) as u64,
+            u8::from(r.slice) as u64,
+            r.place as u64,
+            0,
+            0,
+            0,
+            0,
+            0,
+            0,
+            0,
+            0,
+            0,
+        ],
     }
 }
 

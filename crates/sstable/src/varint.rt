@@ -3,8 +3,7 @@ ghost use Rattle.std.specs.Prelude.{◌≡◌, length};
 ghost use Rattle.number_varint.specs.Varints.{shortest};
 ghost use Rattle.sstable.specs.Varints.{varint_read, VarintPut};
 
-use common::number::Num;
-use common::refusal;
+use common::reading::Bad;
 
 // The words of `sstable_varint_read`.
 fn read_words(bytes: &[u8], at: usize, end: usize) -> [u64; 5]
@@ -14,14 +13,8 @@ fn read_words(bytes: &[u8], at: usize, end: usize) -> [u64; 5]
         return [1, 3, 0, 0, 0];
     }
     match number_varint::read(bytes, at, end) {
-        Num::Number { value, next } => [0, 0, 0, value, next as u64],
-        Num::Refused { fault, place } => [
-            refusal::fault_number(fault) as u64,
-            3,
-            place as u64,
-            0,
-            0,
-        ],
+        Ok((value, next)) => [0, 0, 0, value, next as u64],
+        Err(Bad { fault, place }) => [u8::from(fault) as u64, 3, place as u64, 0, 0],
     }
 }
 

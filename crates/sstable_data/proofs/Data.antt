@@ -1,4 +1,5 @@
 -- The laws of the calls for Data. Assumes nothing.
+use Rattle.std.proofs.Common.{Result, Ok, Err, Option, Some, None}
 use mathlib.Core.Path.{◌≡◌, refl, sym, ap, ◌∙◌}
 use mathlib.Core.List.{List, [], ◌∷◌}
 use Prim.Native.Nat.{ℕ, ◌-◌, ◌<◌}
@@ -6,7 +7,7 @@ use native.Mathlib.Omega.{arith}
 use borrow.Author.Tests.{lt-ltb, eq-eqb, ne_eqb, ltb-false}
 use lib.ListN.{length, get_or}
 use Rattle.common.specs.Choose.{pick, bind}
-use Rattle.common.specs.Refusals.{fault_number, slice_number, said_refusal}
+use Rattle.common.specs.Refusals.{fault_number, slice_number, said_refusal, outcome}
 use Rattle.common.specs.Store.{part, shown}
 use Rattle.common.specs.Times.{biased}
 use Rattle.common.proofs.Choose.{pick_yes, pick_no, pick_ind, bind_self}
@@ -21,15 +22,9 @@ use Rattle.data_walk.specs.Walks.{start}
 use Rattle.data_items.specs.declared.Item.{Item}
 use Rattle.data_walk.specs.declared.cursors.Cursor.{Cursor}
 use Rattle.data_walk.specs.declared.cursors.Phase.TheVariants.{Partition}
-use Rattle.data_walk.specs.declared.steps.Step.{Step}
-use Rattle.data_walk.specs.declared.steps.Step.TheVariants.{Next, Done, Refused}
-use Rattle.list_call.specs.Lists.{list_at, counted, said_listed, Lists}
-use Rattle.list_call.specs.declared.lists.Listed.{Listed}
-use Rattle.list_call.specs.declared.lists.Listed.TheVariants.{Records, Refused as listed-refused}
+use Rattle.list_call.specs.Lists.{list_at, counted, Lists}
 use Rattle.write_accept.specs.Writes.{write_of}
-use Rattle.write_call.specs.Written.{said_written, Writes}
-use Rattle.write_call.specs.declared.writes.Written.{Written}
-use Rattle.write_call.specs.declared.writes.Written.TheVariants.{Length, Refused as written-refused}
+use Rattle.write_call.specs.Written.{Writes}
 use Rattle.sstable_words.specs.Words.{words, mapped}
 use Rattle.sstable_data.specs.Data.{bases_in, phase_of, position_in, cursor_in, state_words, item_words, no_item, answer_words, state_after, step_of, Told, value_words, Shows, items_of, number_words, Listing, data_of, Writing}
 
@@ -45,20 +40,20 @@ unfolding words
 refusal_is r m n e f = rw (e, f) refl
 
 -- ---- a step
-module _ (c b s w : List ℕ) (k : Bases) (x : Cursor) (r : Step) (e : k ≡ bases_in b) (f : x ≡ cursor_in w) (g : said_step r ≡ step_at c k x s) where
+module _ (c b s w : List ℕ) (k : Bases) (x : Cursor) (r : Result (Option (Item × Cursor)) Refusal) (e : k ≡ bases_in b) (f : x ≡ cursor_in w) (g : said_step r ≡ step_at c k x s) where
   of_step : step_of c b s w ≡ said_step r
   unfolding step_of bind
   of_step = rw (← e, ← f) (sym g)
 
-  pub told_next : (i : Item) (y : Cursor) (a w' : List ℕ) → r ≡ Next i y → w' ≡ state_words y → a ≡ 0 ∷ 0 ∷ 0 ∷ item_words i → Told (step_of c b s w) w w' a
+  pub told_next : (i : Item) (y : Cursor) (o : Option (Item × Cursor)) (a w' : List ℕ) → r ≡ Ok o → o ≡ Some (i, y) → w' ≡ state_words y → a ≡ 0 ∷ 0 ∷ 0 ∷ item_words i → Told (step_of c b s w) w w' a
   unfolding answer_words state_after words mapped said_step
-  told_next i y a w' d h j = rw (of_step, d) record { answer = j; state = h }
+  told_next i y o a w' d u h j = rw (of_step, d, u) record { answer = j; state = h }
 
-  pub told_done : r ≡ Done → Told (step_of c b s w) w w (0 ∷ 0 ∷ 0 ∷ no_item)
+  pub told_done : (o : Option (Item × Cursor)) → r ≡ Ok o → o ≡ None → Told (step_of c b s w) w w (0 ∷ 0 ∷ 0 ∷ no_item)
   unfolding answer_words state_after words mapped said_step
-  told_done d = rw (of_step, d) record { answer = refl; state = refl }
+  told_done o d u = rw (of_step, d, u) record { answer = refl; state = refl }
 
-  pub told_refused : (y : Refusal) (a : List ℕ) → r ≡ Refused y → a ≡ words no_item (said_refusal y) → Told (step_of c b s w) w w a
+  pub told_refused : (y : Refusal) (a : List ℕ) → r ≡ Err y → a ≡ words no_item (said_refusal y) → Told (step_of c b s w) w w a
   unfolding answer_words state_after words mapped said_step
   told_refused y a d j = rw (of_step, d) record { answer = j; state = refl }
 
@@ -129,40 +124,30 @@ module _ (s : List ℕ) (i : Item) (v : List ℕ) (e : v ≡ value_of s i) where
 
 pub ruleset shows = (shows_none, shows_there)
 
+-- ---- a number
+module _ (l : Result ℕ Refusal) where
+  pub number_is : (n : ℕ) → l ≡ Ok n → 0 ∷ 0 ∷ 0 ∷ n ∷ [] ≡ number_words (outcome l)
+  unfolding number_words outcome words mapped
+  number_is n e = rw e refl
+
+  pub number_bad : (x : Refusal) (m n : ℕ) → l ≡ Err x → m ≡ fault_number x.fault → n ≡ slice_number x.slice → m ∷ n ∷ x.place ∷ 0 ∷ [] ≡ number_words (outcome l)
+  unfolding number_words outcome words mapped
+  number_bad x m n e f g = rw (e, f, g) refl
+
+pub ruleset numbers = (number_is, number_bad)
+
 -- ---- the listing
-module _ (l : Listed) where
-  pub listed_is : (n : ℕ) → l ≡ Records n → 0 ∷ 0 ∷ 0 ∷ n ∷ [] ≡ number_words (said_listed l)
-  unfolding number_words said_listed words mapped
-  listed_is n e = rw e refl
-
-  pub listed_bad : (x : Refusal) (m n : ℕ) → l ≡ listed-refused x → m ≡ fault_number x.fault → n ≡ slice_number x.slice → m ∷ n ∷ x.place ∷ 0 ∷ [] ≡ number_words (said_listed l)
-  unfolding number_words said_listed words mapped
-  listed_bad x m n e f g = rw (e, f, g) refl
-
-pub ruleset lists_words = (listed_is, listed_bad)
-
-module _ (c b s : List ℕ) (k : Bases) (l : Listed) (e : k ≡ bases_in b) where
-  pub counts_items : (a : List ℕ) → said_listed l ≡ counted 0 (list_at c k s 0) → a ≡ number_words (said_listed l) → a ≡ number_words (counted 0 (items_of c b s 0))
+module _ (c b s : List ℕ) (k : Bases) (l : Result ℕ Refusal) (e : k ≡ bases_in b) where
+  pub counts_items : (a : List ℕ) → outcome l ≡ counted 0 (list_at c k s 0) → a ≡ number_words (outcome l) → a ≡ number_words (counted 0 (items_of c b s 0))
   unfolding items_of bind
   counts_items a f g = rw (← e, ← f) g
 
-  pub lists_items : (d d' a : List ℕ) → Lists (list_at c k s (length d)) d d' l → a ≡ number_words (said_listed l) → Listing (items_of c b s (length d)) d d' a
+  pub lists_items : (d d' a : List ℕ) → Lists (list_at c k s (length d)) d d' l → a ≡ number_words (outcome l) → Listing (items_of c b s (length d)) d d' a
   unfolding items_of bind
   lists_items d d' a h g = rw (← e) record { answer = rw (← h.answer) g; buffer = h.buffer }
 
 -- ---- the writer
-module _ (l : Written) where
-  pub written_is : (n : ℕ) → l ≡ Length n → 0 ∷ 0 ∷ 0 ∷ n ∷ [] ≡ number_words (said_written l)
-  unfolding number_words said_written words mapped
-  written_is n e = rw e refl
-
-  pub written_bad : (x : Refusal) (m n : ℕ) → l ≡ written-refused x → m ≡ fault_number x.fault → n ≡ slice_number x.slice → m ∷ n ∷ x.place ∷ 0 ∷ [] ≡ number_words (said_written l)
-  unfolding number_words said_written words mapped
-  written_bad x m n e f g = rw (e, f, g) refl
-
-pub ruleset writes_words = (written_is, written_bad)
-
-pub writes_data : (c b s bytes : List ℕ) (k : Bases) (l : Written) → k ≡ bases_in b → (d d' a : List ℕ) → Writes (write_of c k s bytes (length d)) d d' l → a ≡ number_words (said_written l)
+pub writes_data : (c b s bytes : List ℕ) (k : Bases) (l : Result ℕ Refusal) → k ≡ bases_in b → (d d' a : List ℕ) → Writes (write_of c k s bytes (length d)) d d' l → a ≡ number_words (outcome l)
     → Writing (data_of c b s bytes (length d)) d d' a
 unfolding data_of bind
 writes_data c b s bytes k l e d d' a h g = rw (← e) record { answer = rw (← h.answer) g; buffer = h.buffer }

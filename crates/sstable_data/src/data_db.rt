@@ -1,8 +1,8 @@
 // Data.db, for C.
 ghost use Rattle.std.specs.Prelude.{◌≡◌, ◌∷◌};
-ghost use Rattle.common.specs.Refusals.{said_refusal};
+ghost use Rattle.common.specs.Refusals.{outcome, said_refusal};
 ghost use Rattle.sstable_words.specs.Words.{words};
-ghost use Rattle.sstable_data.specs.Data.{bases_in, phase_number, phase_of, flag_of, opened_in, times_in, hand_in, position_in, cursor_in, state_words, item_words, no_item, step_of, Told, showing, Shows};
+ghost use Rattle.sstable_data.specs.Data.{bases_in, phase_number, phase_of, flag_of, opened_in, times_in, hand_in, position_in, cursor_in, state_words, item_words, no_item, step_of, Told, showing, Shows, number_words};
 
 use common::refusal::Refusal;
 use common::times::Bases;
@@ -11,7 +11,6 @@ use data_cell::cells::Times;
 use data_field::fields::Deletion;
 use data_items::Item;
 use data_walk::cursors::{Cursor, Hand, Phase};
-use data_walk::steps::Step;
 
 // The bases of three words.
 pub(crate) fn bases_in(b: &[u64; 3]) -> Bases
@@ -21,6 +20,25 @@ pub(crate) fn bases_in(b: &[u64; 3]) -> Bases
         timestamp: times::biased_of(b[0]),
         local: b[1],
         ttl: b[2],
+    }
+}
+
+// The words of an answer that is a number.
+pub(crate) fn number_words(answer: Result<usize, Refusal>) -> [u64; 4]
+    ensures { result ≡ number_words (outcome answer) }
+{
+    match answer {
+        Ok(n) => [0, 0, 0, n as u64],
+        Err(r) => {
+            let fault = r.fault;
+            let slice = r.slice;
+            [
+                u8::from(fault) as u64,
+                u8::from(slice) as u64,
+                r.place as u64,
+                0,
+            ]
+        }
     }
 }
 
@@ -198,8 +216,8 @@ fn refused_words(r: Refusal) -> [u64; 15]
     let fault = r.fault;
     let slice = r.slice;
     [
-        refusal::fault_number(fault) as u64,
-        refusal::slice_number(slice) as u64,
+        u8::from(fault) as u64,
+        u8::from(slice) as u64,
         r.place as u64,
         0,
         0,
@@ -230,14 +248,14 @@ pub extern "C" fn sstable_step(
     let from = cursor_in(state);
     let table = bases_in(bases);
     match from.step(schema, table, data) {
-        Step::Next { item, cursor } => {
+        Ok(Some((item, cursor))) => {
             *state = state_words(cursor);
             *answer = item_words(item);
         }
-        Step::Done => {
+        Ok(None) => {
             *answer = [0, 0, 0, 0, 0, 0, 0, 0, 0, 0, 0, 0, 0, 0, 0];
         }
-        Step::Refused(r) => {
+        Err(r) => {
             *answer = refused_words(r);
         }
     }

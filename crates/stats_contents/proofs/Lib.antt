@@ -1,4 +1,3 @@
--- What the code's answers say (Said), the pairs of the contents (Pairs), and document 01's examples (Vectors).
-pub mod Said
+-- The pairs of the contents (Pairs), and document 01's examples (Vectors).
 pub mod Pairs
 pub mod Vectors

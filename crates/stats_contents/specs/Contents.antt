@@ -3,12 +3,10 @@
 -- read by place, each to the next larger offset or the end." 001 calls all of these signed. Assumes nothing.
 use Rattle.std.specs.Prelude.{ℕ, zero, suc, ◌+◌, ◌*◌, Bool, true, ltb, eqb}
 use Rattle.common.specs.Choose.{pick, bind}
-use Rattle.common.specs.Got.{Got, got, bad, on, Reader, ◌>>=◌, ret}
+use Rattle.common.specs.Got.{got, bad, on, Reader, ◌>>=◌, ret}
 use Rattle.number_fixed.specs.BigEndian.{fixed_at}
 use Rattle.common.specs.declared.refusal.Fault.TheVariants.{PastEnd, OutOfRange, NotCarried, TooMany, Repeated}
 use Rattle.stats_contents.specs.declared.contents.Contents.{Contents}
-use Rattle.stats_contents.specs.declared.contents.Listed.{Listed}
-use Rattle.stats_contents.specs.declared.contents.Listed.TheVariants.{Pairs, Refused}
 
 -- an offset lies behind the count, so 0 is that of an absent entry
 abbrev pub none : Contents
@@ -82,8 +80,3 @@ nearer o x best = pick (ltb o x) (pick (ltb x best) x best) best
 -- "each to the next larger offset or the end"
 unfoldable pub end_of : ℕ → Contents → ℕ → ℕ
 end_of o c size = nearer o c.header (nearer o c.statistics (nearer o c.compaction (nearer o c.validation size)))
-
--- what the code's answer says
-unfoldable pub said_listed : Listed → Got Contents
-said_listed (Pairs c n) = got c n
-said_listed (Refused f p) = bad f p

@@ -1,9 +1,9 @@
 // The contents of Statistics: which entries there are, and where.
+ghost use Rattle.common.specs.Got.{said};
 ghost use Rattle.std.specs.Prelude.{◌≡◌, Bool, ◌+◌, ◌*◌, ◌≤◌, length};
-ghost use Rattle.common.specs.Got.{said_num};
-ghost use Rattle.stats_contents.specs.Contents.{none, offset_of, with_entry, used, entry_type_at, offset_at, pairs_at, count_at, contents_at, nearer, end_of, said_listed};
+ghost use Rattle.stats_contents.specs.Contents.{none, offset_of, with_entry, used, entry_type_at, offset_at, pairs_at, count_at, contents_at, nearer, end_of};
 
-use common::number::Num;
+use common::reading::Reading;
 use common::refusal::Fault;
 
 // The offset of each entry, 0 where it is absent.
@@ -13,13 +13,6 @@ pub struct Contents {
     pub compaction: usize,
     pub statistics: usize,
     pub header: usize,
-}
-
-#[derive(Clone, Copy)]
-pub enum Listed {
-    // The contents, and the place after them.
-    Pairs { contents: Contents, next: usize },
-    Refused { fault: Fault, place: usize },
 }
 
 // The offset of the entry of type t.
@@ -43,35 +36,15 @@ fn with_entry(t: u64, o: usize, c: Contents) -> Contents
     ensures { result ≡ with_entry t o c }
 {
     if t == 0 {
-        return Contents {
-            validation: o,
-            compaction: c.compaction,
-            statistics: c.statistics,
-            header: c.header,
-        };
+        return Contents { validation: o, ..c };
     }
     if t == 1 {
-        return Contents {
-            validation: c.validation,
-            compaction: o,
-            statistics: c.statistics,
-            header: c.header,
-        };
+        return Contents { compaction: o, ..c };
     }
     if t == 2 {
-        return Contents {
-            validation: c.validation,
-            compaction: c.compaction,
-            statistics: o,
-            header: c.header,
-        };
+        return Contents { statistics: o, ..c };
     }
-    Contents {
-        validation: c.validation,
-        compaction: c.compaction,
-        statistics: c.statistics,
-        header: o,
-    }
+    Contents { header: o, ..c }
 }
 
 // Whether an entry has the offset o.
@@ -91,94 +64,58 @@ fn is_used(o: usize, c: Contents) -> bool
 }
 
 // The type of the next entry, behind those in c.
-fn entry_type(s: &[u8], at: usize, end: usize, c: Contents) -> Num
-    ensures { said_num result ≡ entry_type_at c s.now at end }
+fn entry_type(s: &[u8], at: usize, end: usize, c: Contents) -> Reading<u64>
+    ensures { said result ≡ entry_type_at c s.now at end }
 {
-    match number_fixed::read(s, at, end, 4) {
-        Num::Number { value, next } => {
-            if 3 < value {
-                return Num::Refused {
-                    fault: Fault::NotCarried,
-                    place: at,
-                };
-            }
-            if offset_of(value, c) == 0 {
-                return Num::Number { value, next };
-            }
-            Num::Refused {
-                fault: Fault::Repeated,
-                place: at,
-            }
-        }
-        Num::Refused { fault, place } => Num::Refused { fault, place },
+    let (value, next) = number_fixed::read(s, at, end, 4)?;
+    if 3 < value {
+        return Err(Fault::NotCarried.at(at));
     }
+    if offset_of(value, c) == 0 {
+        return Ok((value, next));
+    }
+    Err(Fault::Repeated.at(at))
 }
 
 // The offset of the next entry, behind those in c, where the contents end at start.
-fn entry_offset(s: &[u8], at: usize, end: usize, c: Contents, start: usize) -> Num
-    ensures { said_num result ≡ offset_at c start s.now at end }
+fn entry_offset(s: &[u8], at: usize, end: usize, c: Contents, start: usize) -> Reading<u64>
+    ensures { said result ≡ offset_at c start s.now at end }
 {
-    match number_fixed::read(s, at, end, 4) {
-        Num::Number { value, next } => {
-            if 2147483647 < value {
-                return Num::Refused {
-                    fault: Fault::OutOfRange,
-                    place: at,
-                };
-            }
-            let offset = value as usize;
-            if end < offset {
-                return Num::Refused {
-                    fault: Fault::PastEnd,
-                    place: at,
-                };
-            }
-            if offset < start {
-                return Num::Refused {
-                    fault: Fault::OutOfRange,
-                    place: at,
-                };
-            }
-            if is_used(offset, c) {
-                return Num::Refused {
-                    fault: Fault::Repeated,
-                    place: at,
-                };
-            }
-            Num::Number { value, next }
-        }
-        Num::Refused { fault, place } => Num::Refused { fault, place },
+    let (value, next) = number_fixed::read(s, at, end, 4)?;
+    if 2147483647 < value {
+        return Err(Fault::OutOfRange.at(at));
     }
+    let offset = value as usize;
+    if end < offset {
+        return Err(Fault::PastEnd.at(at));
+    }
+    if offset < start {
+        return Err(Fault::OutOfRange.at(at));
+    }
+    if is_used(offset, c) {
+        return Err(Fault::Repeated.at(at));
+    }
+    Ok((value, next))
 }
 
 // How many pairs there are.
-fn count(s: &[u8], at: usize, end: usize) -> Num
-    ensures { said_num result ≡ count_at s.now at end }
+fn count(s: &[u8], at: usize, end: usize) -> Reading<u64>
+    ensures { said result ≡ count_at s.now at end }
 {
-    match number_fixed::read(s, at, end, 4) {
-        Num::Number { value, next } => {
-            if 2147483647 < value {
-                return Num::Refused {
-                    fault: Fault::OutOfRange,
-                    place: at,
-                };
-            }
-            if 4 < value {
-                return Num::Refused {
-                    fault: Fault::TooMany,
-                    place: at,
-                };
-            }
-            Num::Number { value, next }
-        }
-        Num::Refused { fault, place } => Num::Refused { fault, place },
+    let (value, next) = number_fixed::read(s, at, end, 4)?;
+    if 2147483647 < value {
+        return Err(Fault::OutOfRange.at(at));
     }
+    if 4 < value {
+        return Err(Fault::TooMany.at(at));
+    }
+    Ok((value, next))
 }
 
 // The pairs: n of them, at most 4.
-fn pairs(s: &[u8], at: usize, end: usize, n: u64) -> Listed
+fn pairs(s: &[u8], at: usize, end: usize, n: u64) -> Reading<Contents>
     requires { n ≤ 4 }
-    ensures { said_listed result ≡ pairs_at n none (4 + 8 * n) s.now at end }
+    ensures { said result ≡ pairs_at n none (4 + 8 * n) s.now at end }
 {
     let mut c = Contents {
         validation: 0,
@@ -188,64 +125,29 @@ fn pairs(s: &[u8], at: usize, end: usize, n: u64) -> Listed
     };
     let mut p = at;
     let start = 4 + 8 * (n as usize);
-    let mut i: u64 = 0;
-    while i < n {
-        match entry_type(s, p, end, c) {
-            Num::Number { value, next } => match entry_offset(s, next, end, c, start) {
-                Num::Number {
-                    value: offset,
-                    next: after,
-                } => {
-                    c = with_entry(value, offset as usize, c);
-                    p = after;
-                    i += 1;
-                }
-                Num::Refused { fault, place } => return Listed::Refused { fault, place },
-            },
-            Num::Refused { fault, place } => return Listed::Refused { fault, place },
-        }
+    for _ in 0..n {
+        let (entry, next) = entry_type(s, p, end, c)?;
+        let (offset, next) = entry_offset(s, next, end, c, start)?;
+        c = with_entry(entry, offset as usize, c);
+        p = next;
     }
-    Listed::Pairs {
-        contents: c,
-        next: p,
-    }
+    Ok((c, p))
 }
 
 // The contents of the file s: the entries 0 and 3 are present.
 // Internal: for the crates above.
-pub fn read(s: &[u8], at: usize, end: usize) -> Listed
-    ensures { said_listed result ≡ contents_at s.now at end }
+pub fn read(s: &[u8], at: usize, end: usize) -> Reading<Contents>
+    ensures { said result ≡ contents_at s.now at end }
 {
-    match count(s, at, end) {
-        Num::Number { value, next } => {
-            let listed = pairs(s, next, end, value);
-            match listed {
-                Listed::Pairs {
-                    contents,
-                    next: after,
-                } => {
-                    if contents.validation == 0 {
-                        return Listed::Refused {
-                            fault: Fault::NotCarried,
-                            place: 0,
-                        };
-                    }
-                    if contents.header == 0 {
-                        return Listed::Refused {
-                            fault: Fault::NotCarried,
-                            place: 0,
-                        };
-                    }
-                    Listed::Pairs {
-                        contents,
-                        next: after,
-                    }
-                }
-                Listed::Refused { fault, place } => Listed::Refused { fault, place },
-            }
-        }
-        Num::Refused { fault, place } => Listed::Refused { fault, place },
+    let (n, next) = count(s, at, end)?;
+    let (contents, next) = pairs(s, next, end, n)?;
+    if contents.validation == 0 {
+        return Err(Fault::NotCarried.at(0));
     }
+    if contents.header == 0 {
+        return Err(Fault::NotCarried.at(0));
+    }
+    Ok((contents, next))
 }
 
 // x where it lies behind o and before best, else best.

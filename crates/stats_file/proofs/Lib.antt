@@ -1,5 +1,4 @@
--- What the code's answers say (Said), the base times (Times), the buffer of schema records (Records, Buffers), the loops (Loops), the parts one after the other (Parts), the whole file (Whole), and examples (Vectors).
-pub mod Said
+-- The base times (Times), the buffer of schema records (Records, Buffers), the loops (Loops), the parts one after the other (Parts), the whole file (Whole), and examples (Vectors).
 pub mod Times
 pub mod Records
 pub mod Buffers

@@ -1,27 +1,22 @@
 -- The loops over the columns of the header. Assumes nothing.
-use Rattle.std.proofs.Common.{◌≡◌, ℕ, suc, ◌+◌, ◌-◌, ◌*◌, ◌^◌, ◌<◌, ◌≤◌, Bool, true, false, ltb, List, [], ◌∷◌, ◌++◌, length, get_or, sym, refl, ap, ◌∙◌, add-zero, arith, ltb-false, le-ltb, lt-ltb}
+use Rattle.std.proofs.Common.{◌≡◌, ℕ, suc, ◌+◌, ◌-◌, ◌*◌, ◌^◌, ◌<◌, ◌≤◌, Bool, true, false, ltb, List, [], ◌∷◌, ◌++◌, length, get_or, sym, refl, ap, ◌∙◌, add-zero, arith, ltb-false, le-ltb, lt-ltb, Result, Ok, Err}
 use Rattle.common.specs.Choose.{pick}
-use Rattle.common.specs.Got.{Got, got, bad, on, said_num}
+use Rattle.common.specs.Got.{Got, got, bad, on, Reading, said, said_place}
 use Rattle.number_fixed.specs.BigEndian.{big_endian}
 use Rattle.common.specs.Store.{Room, Puts, shown}
-use Rattle.common.specs.declared.refusal.Fault.{Fault}
-use Rattle.common.specs.declared.number.Num.{Num}
-use Rattle.common.specs.declared.number.Num.TheVariants.{Number, Refused as num-refused}
+use Rattle.common.specs.declared.reading.Bad.{Bad}
 use Rattle.common.proofs.Choose.{pick_yes, pick_no}
-use Rattle.common.proofs.Gives.{Gives, gives_on, gives_got, gives_bad, gives_pick, gives_bind, gives_is}
+use Rattle.common.proofs.Gives.{Gives, never, got_place, gives_on, gives_got, gives_bad, gives_pick, gives_bind, gives_is}
 use Rattle.common.proofs.RoundTrip.{Reads}
 use Rattle.common.proofs.Puts.{puts_same}
 use Rattle.number_varint.proofs.Varints.{varint_ends}
-use Rattle.common.proofs.Said.{on_num, on_num_bad, num_got}
+use Rattle.common.proofs.Said.{on_ok, on_err, said_got}
 use Rattle.text.specs.Text.{same}
 use Rattle.schema_check.specs.Records.{role_at, name_at, name_len_at, most_of}
 use Rattle.schema_column.specs.Columns as schema
 use Rattle.schema_column.specs.declared.Column.{Column}
 use Rattle.stats_file.specs.Header.{count_at, is_named, name_at as nameOfAt, typed_at, named_at, column_at, columns_at, group, group_at, record_of}
 use Rattle.stats_file.specs.Buffer.{columns_from, Kept, Holds, place_after, count_in, Adds, Fills, FillsGroup}
-use Rattle.stats_file.specs.Said.{said_column}
-use Rattle.stats_file.specs.declared.columns.Found.{Found}
-use Rattle.stats_file.specs.declared.columns.Found.TheVariants.{Is, Refused}
 use Rattle.stats_file.proofs.Records.{length_record}
 use Rattle.stats_file.proofs.Buffers.{holds_more}
 
@@ -76,17 +71,23 @@ name_same s d at from size v u w r e f g h j = j ∙ rw (g, h, e, f)
 pub ruleset seeking = (seeking_none, seeking_end, seeking_key, seeking_found, seeking_other)
 
 -- ---- what an answer that says only the place tells
-pub placed : {A : Type 0} (x : Got A) (y : Num) → said_num y ≡ place_after x → (z m : ℕ) → y ≡ Number z m → Reads x m (λ a. Unit)
-unfolding said_num place_after
-placed (got a k) y i z m j =
-    let o : k ≡ m = cc in
-    record { value = a; is = ap (got a) o; holds = tt }
-placed (bad g k) y i z m j = let w : ◌≡◌ {A = ℕ} 0 1 = cc in absurd (omega arith)
+pub placed : {A : Type 0} (x : Got A) (r : Result ℕ Bad) → said_place r ≡ place_after x → (m : ℕ) → r ≡ Ok m → Reads x m (λ a. Unit)
+unfolding said_place place_after
+placed (got a k) r e m f =
+    let o : got tt m ≡ got tt k = rw f at e in
+    record { value = a; is = ap (got a) (sym (got_place o)); holds = tt }
+placed (bad g k) r e m f =
+    let o : ◌≡◌ {A = Got Unit} (got tt m) (bad g k) = rw f at e in
+    never (sym o)
 
-pub unplaced : {A : Type 0} (x : Got A) (y : Num) → said_num y ≡ place_after x → (g : Fault) (m : ℕ) → y ≡ num-refused g m → x ≡ bad g m
-unfolding said_num place_after
-unplaced (got a k) y i g m j = let w : ◌≡◌ {A = ℕ} 0 1 = cc in absurd (omega arith)
-unplaced (bad b k) y i g m j = cc
+pub unplaced : {A : Type 0} (x : Got A) (r : Result ℕ Bad) → said_place r ≡ place_after x → (y : Bad) → r ≡ Err y → x ≡ bad y.fault y.place
+unfolding said_place place_after
+unplaced (got a k) r e y f =
+    let o : bad y.fault y.place ≡ got tt k = rw f at e in
+    never o
+unplaced (bad g k) r e y f =
+    let o : ◌≡◌ {A = Got Unit} (bad y.fault y.place) (bad g k) = rw f at e in
+    cc
 
 -- ---- columns: i of n are read and stored behind the first
 pub record Filling (n role : ℕ) (s : List ℕ) (at end : ℕ) (d₀ : List ℕ) (first : ℕ) (d : List ℕ) (p i : ℕ) : Type 0 where
@@ -118,8 +119,8 @@ small_gives role cs s at end l =
     (λ e. gives_on _ (any _) (λ k n u. gives_got _ _ (record { name = omega arith; len = omega arith })))
     (λ e. gives_on _ (name_inside cs s at end) (λ name n h. gives_on _ (any _) (λ k m u. gives_got _ _ (record { name = omega arith; len = omega arith }))))
 
-pub column_small : (r : Found) (role : ℕ) (cs : List Column) (s : List ℕ) (at end : ℕ) (c : Column) (n : ℕ) → length s ≤ 1073741824 → said_column r ≡ column_at role cs s at end → r ≡ Is c n → Small c
-unfolding said_column
+pub column_small : (r : Reading Column) (role : ℕ) (cs : List Column) (s : List ℕ) (at end : ℕ) (c : Column) (n : ℕ) → length s ≤ 1073741824 → said r ≡ column_at role cs s at end → r ≡ Ok (c, n) → Small c
+unfolding said
 column_small r role cs s at end c n l e f = gives_is {n = n} (small_gives role cs s at end l) (sym e ∙ rw f refl)
 
 module _ (n role : ℕ) (s : List ℕ) (at end : ℕ) (d₀ : List ℕ) (first : ℕ) where
@@ -144,8 +145,8 @@ module _ (n role : ℕ) (s : List ℕ) (at end : ℕ) (d₀ : List ℕ) (first :
     pub filling_same : length d ≡ length d₀
     filling_same = h.same
 
-    pub filling_end : n ≤ i → Fills (columns_at n role (columns_from d₀ 0 first) s at end) (first + n) d₀ d (Number 0 p)
-    unfolding columns_at said_num place_after
+    pub filling_end : n ≤ i → Fills (columns_at n role (columns_from d₀ 0 first) s at end) (first + n) d₀ d (Ok p)
+    unfolding columns_at said_place place_after
     filling_end l =
         let e : n - i ≡ 0 = omega arith in
         let f : i ≡ n = omega (arith, h.within) in
@@ -156,7 +157,7 @@ module _ (n role : ℕ) (s : List ℕ) (at end : ℕ) (d₀ : List ℕ) (first :
           holds = λ cs m j. record { columns = gives_is {P = λ x y. columns_from d 0 (first + n) ≡ x} (gives_got _ _ refl) (g ∙ j); kept = rw f at h.kept };
         }
 
-    module _ (l : i < n) (d' : List ℕ) (r : Num) (e : Adds (column_at role (columns_from d 0 (first + i)) s p end) (first + i) d d' r) where
+    module _ (l : i < n) (d' : List ℕ) (r : Result ℕ Bad) (e : Adds (column_at role (columns_from d 0 (first + i)) s p end) (first + i) d d' r) where
       onward : on (column_at role (columns_from d 0 (first + i)) s p end) (λ c m. columns_at (n - (i + 1)) role (columns_from d 0 (first + i) ++ (c ∷ [])) s m end)
           ≡ columns_at n role (columns_from d₀ 0 first) s at end
       unfolding columns_at
@@ -164,10 +165,10 @@ module _ (n role : ℕ) (s : List ℕ) (at end : ℕ) (d₀ : List ℕ) (first :
           let f : n - i ≡ suc (n - (i + 1)) = omega arith in
           ap (λ (x : ℕ). columns_at x role (columns_from d 0 (first + i)) s p end) (sym f) ∙ h.rest
 
-      pub filling_more : (z m : ℕ) → r ≡ Number z m → Filling n role s at end d₀ first d' m (i + 1)
+      pub filling_more : (m : ℕ) → r ≡ Ok m → Filling n role s at end d₀ first d' m (i + 1)
       unfolding on
-      filling_more z m f =
-          let read = placed _ r e.answer z m f in
+      filling_more m f =
+          let read = placed _ r e.answer m f in
           let more = e.holds read.value m read.is in
           let k : first + (i + 1) ≡ first + i + 1 = omega arith in
           record {
@@ -177,25 +178,27 @@ module _ (n role : ℕ) (s : List ℕ) (at end : ℕ) (d₀ : List ℕ) (first :
             rest = rw (k, more.columns) (rw read.is at onward);
           }
 
-      pub filling_bad : (f : Fault) (x : ℕ) → r ≡ num-refused f x → Fills (columns_at n role (columns_from d₀ 0 first) s at end) (first + n) d₀ d' (num-refused f x)
-      unfolding said_num place_after on
-      filling_bad f x g =
-          let q : bad f x ≡ columns_at n role (columns_from d₀ 0 first) s at end = rw (unplaced (column_at role (columns_from d 0 (first + i)) s p end) r e.answer f x g) at onward in
-          record { answer = rw (← q); same = e.same ∙ h.same; holds = λ cs m j. gives_is {P = λ y z. Holds d' (first + n) cs} (gives_bad f x) (q ∙ j) }
+      pub filling_bad : (y : Bad) → r ≡ Err y → Fills (columns_at n role (columns_from d₀ 0 first) s at end) (first + n) d₀ d' (Err y)
+      unfolding said_place place_after on
+      filling_bad y f =
+          let q : bad y.fault y.place ≡ columns_at n role (columns_from d₀ 0 first) s at end = rw (unplaced (column_at role (columns_from d 0 (first + i)) s p end) r e.answer y f) at onward in
+          record { answer = rw (← q); same = e.same ∙ h.same; holds = λ cs m j. never (q ∙ j) }
 
-pub adds_same : (x : Got Column) (k : ℕ) (d d' : List ℕ) (r : Num) → Adds x k d d' r → length d' ≡ length d
-adds_same x k d d' r h = h.same
-
-pub ruleset filling = (filling_none, filling_room, filling_kept, filling_same, filling_end, filling_more, filling_bad, adds_same)
+pub ruleset filling = (filling_none, filling_room, filling_kept, filling_same, filling_end, filling_more, filling_bad)
 
 -- ---- one column
-module _ (role : ℕ) (s : List ℕ) (at end : ℕ) (d : List ℕ) (k : ℕ) (r : Found) (e : said_column r ≡ column_at role (columns_from d 0 k) s at end) where
+-- it is made of what was read
+pub column_made : (c d : Column) (n : ℕ) (q : Got Column) → c ≡ d → got d n ≡ q → said (Ok (c, n)) ≡ q
+unfolding said
+column_made c d n q e f = rw e f
+
+module _ (role : ℕ) (s : List ℕ) (at end : ℕ) (d : List ℕ) (k : ℕ) (r : Reading Column) (e : said r ≡ column_at role (columns_from d 0 k) s at end) where
   pub adding_room : (c : Column) → 16 * (k + 1) ≤ length d → Room d (16 * k) (record_of c)
   adding_room c m = record { fits = omega (arith, length_record c) }
 
-  pub adding_is : (c : Column) (n : ℕ) (d' : List ℕ) (z : ℕ) → r ≡ Is c n → length s ≤ 1073741824 → Kept d k → 16 * (k + 1) ≤ length d → Puts d d' (16 * k) (record_of c) z
-      → Adds (column_at role (columns_from d 0 k) s at end) k d d' (Number 0 n)
-  unfolding said_num place_after said_column
+  pub adding_is : (c : Column) (n : ℕ) (d' : List ℕ) (z : ℕ) → r ≡ Ok (c, n) → length s ≤ 1073741824 → Kept d k → 16 * (k + 1) ≤ length d → Puts d d' (16 * k) (record_of c) z
+      → Adds (column_at role (columns_from d 0 k) s at end) k d d' (Ok n)
+  unfolding said said_place place_after
   adding_is c n d' z f l kept b q =
       let o : got c n ≡ column_at role (columns_from d 0 k) s at end = rw f at e in
       let small = column_small r role (columns_from d 0 k) s at end c n l e f in
@@ -206,44 +209,44 @@ module _ (role : ℕ) (s : List ℕ) (at end : ℕ) (d : List ℕ) (k : ℕ) (r 
         holds = λ y m j. gives_is {P = λ x w. Holds d' (k + 1) (columns_from d 0 k ++ (x ∷ []))} (gives_got c n (holds_more d d' k z c kept room q small.name small.len)) (o ∙ j);
       }
 
-  pub adding_bad : (f : Fault) (x : ℕ) → r ≡ Refused f x → Adds (column_at role (columns_from d 0 k) s at end) k d d (num-refused f x)
-  unfolding said_num place_after said_column
-  adding_bad f x g =
-      let o : bad f x ≡ column_at role (columns_from d 0 k) s at end = rw g at e in
-      record { answer = rw (← o); same = refl; holds = λ y m j. gives_is {P = λ z w. Holds d (k + 1) (columns_from d 0 k ++ (y ∷ []))} (gives_bad f x) (o ∙ j) }
+  pub adding_bad : (y : Bad) → r ≡ Err y → Adds (column_at role (columns_from d 0 k) s at end) k d d (Err y)
+  unfolding said said_place place_after
+  adding_bad y f =
+      let o : bad y.fault y.place ≡ column_at role (columns_from d 0 k) s at end = rw f at e in
+      record { answer = rw (← o); same = refl; holds = λ c n j. never (o ∙ j) }
 
 pub ruleset adding = (adding_room, adding_is, adding_bad)
 
 -- ---- a count, and so many columns
 module _ (role : ℕ) (s : List ℕ) (at end : ℕ) (d : List ℕ) (first : ℕ) where
-  pub count_most : (r : Num) (v n : ℕ) → said_num r ≡ count_at role s at end → r ≡ Number v n → v ≤ most_of role
+  pub count_most : (r : Reading ℕ) (v n : ℕ) → said r ≡ count_at role s at end → r ≡ Ok (v, n) → v ≤ most_of role
   unfolding count_at
   count_most r v n e f =
       gives_is
       {P = λ x m. x ≤ most_of role}
       (gives_on _ (any _) (λ x m u. gives_bind _ _ (gives_pick (ltb (most_of role) x) (λ g. gives_bad _ _) (λ g. gives_got _ _ (ltb-false (most_of role) x g)))))
-      (num_got r _ v n e f)
+      (said_got r _ v n e f)
 
-  pub group_room : (r : Num) (v n : ℕ) → said_num r ≡ count_at role s at end → r ≡ Number v n → 16 * (first + most_of role) ≤ length d → 16 * (first + v) ≤ length d
+  pub group_room : (r : Reading ℕ) (v n : ℕ) → said r ≡ count_at role s at end → r ≡ Ok (v, n) → 16 * (first + most_of role) ≤ length d → 16 * (first + v) ≤ length d
   group_room r v n e f h = omega (arith, count_most r v n e f)
 
-  pub group_none : (r : Num) (f : Fault) (x : ℕ) → said_num r ≡ count_at role s at end → r ≡ num-refused f x
-      → FillsGroup (group_at role (columns_from d 0 first) s at end) first d d (num-refused f x)
-  unfolding group_at said_num count_in
-  group_none r f x e g =
-      let q : bad f x ≡ group_at role (columns_from d 0 first) s at end = on_num_bad _ _ r _ f x e g refl in
-      record { answer = rw (← q); same = refl; holds = λ h m j. gives_is {P = λ y z. Holds d (first + h.count) h.columns} (gives_bad f x) (q ∙ j) }
+  pub group_none : (r : Reading ℕ) (y : Bad) → said r ≡ count_at role s at end → r ≡ Err y
+      → FillsGroup (group_at role (columns_from d 0 first) s at end) first d d (Err y)
+  unfolding group_at said count_in
+  group_none r y e f =
+      let q : bad y.fault y.place ≡ group_at role (columns_from d 0 first) s at end = on_err _ _ r _ y e f refl in
+      record { answer = rw (← q); same = refl; holds = λ g n j. never (q ∙ j) }
 
-  module _ (r : Num) (v n : ℕ) (e : said_num r ≡ count_at role s at end) (f : r ≡ Number v n) (d' : List ℕ) (q : Num)
+  module _ (r : Reading ℕ) (v n : ℕ) (e : said r ≡ count_at role s at end) (f : r ≡ Ok (v, n)) (d' : List ℕ) (q : Result ℕ Bad)
       (h : Fills (columns_at v role (columns_from d 0 first) s n end) (first + v) d d' q) where
     grouped : on (columns_at v role (columns_from d 0 first) s n end) (λ cs m. got (group v cs) m) ≡ group_at role (columns_from d 0 first) s at end
     unfolding group_at
-    grouped = on_num _ _ r _ v n e f refl
+    grouped = on_ok _ _ r _ (v, n) e f refl
 
-    pub group_got : (z m : ℕ) → q ≡ Number z m → FillsGroup (group_at role (columns_from d 0 first) s at end) first d d' (Number v m)
-    unfolding said_num count_in on
-    group_got z m j =
-        let read = placed _ q h.answer z m j in
+    pub group_got : (m : ℕ) → q ≡ Ok m → FillsGroup (group_at role (columns_from d 0 first) s at end) first d d' (Ok (v, m))
+    unfolding said count_in on
+    group_got m j =
+        let read = placed _ q h.answer m j in
         let o : got (group v read.value) m ≡ group_at role (columns_from d 0 first) s at end = rw read.is at grouped in
         record {
           answer = rw (← o);
@@ -251,16 +254,13 @@ module _ (role : ℕ) (s : List ℕ) (at end : ℕ) (d : List ℕ) (first : ℕ)
           holds = λ g k i. gives_is {P = λ y w. Holds d' (first + y.count) y.columns} (gives_got (group v read.value) m (h.holds read.value m read.is)) (o ∙ i);
         }
 
-    pub group_bad : (g : Fault) (m : ℕ) → q ≡ num-refused g m → FillsGroup (group_at role (columns_from d 0 first) s at end) first d d' (num-refused g m)
-    unfolding said_num count_in on
-    group_bad g m j =
-        let o : bad g m ≡ group_at role (columns_from d 0 first) s at end = rw (unplaced (columns_at v role (columns_from d 0 first) s n end) q h.answer g m j) at grouped in
-        record { answer = rw (← o); same = h.same; holds = λ y k i. gives_is {P = λ w u. Holds d' (first + y.count) y.columns} (gives_bad g m) (o ∙ i) }
+    pub group_bad : (y : Bad) → q ≡ Err y → FillsGroup (group_at role (columns_from d 0 first) s at end) first d d' (Err y)
+    unfolding said count_in on
+    group_bad y j =
+        let o : bad y.fault y.place ≡ group_at role (columns_from d 0 first) s at end = rw (unplaced (columns_at v role (columns_from d 0 first) s n end) q h.answer y j) at grouped in
+        record { answer = rw (← o); same = h.same; holds = λ g k i. never (o ∙ i) }
 
-pub fills_same : (x : Got (List Column)) (k : ℕ) (d d' : List ℕ) (r : Num) → Fills x k d d' r → length d' ≡ length d
-fills_same x k d d' r h = h.same
-
-pub ruleset grouping = (group_room, group_none, group_got, group_bad, fills_same)
+pub ruleset grouping = (group_room, group_none, group_got, group_bad)
 
 -- a count is at most the role's
 pub group_count : (role : ℕ) (cs : List Column) (s : List ℕ) (at end : ℕ) → Gives (group_at role cs s at end) (λ g n. g.count ≤ most_of role)

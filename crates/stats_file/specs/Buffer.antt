@@ -1,16 +1,13 @@
 -- The buffer in which the reader makes the schema records: the columns that it holds. Assumes nothing.
-use Rattle.std.specs.Prelude.{◌≡◌, ℕ, zero, suc, ◌+◌, ◌*◌, List, [], ◌∷◌, ◌++◌, length}
-use Rattle.common.specs.Got.{Got, got, bad, said_num}
-use Rattle.common.specs.declared.number.Num.{Num}
+use Rattle.std.specs.Prelude.{◌≡◌, ℕ, zero, suc, ◌+◌, ◌*◌, List, [], ◌∷◌, ◌++◌, length, Result}
+use Rattle.common.specs.Got.{Got, got, bad, Reading, said, said_place}
+use Rattle.common.specs.declared.reading.Bad.{Bad}
 use Rattle.common.proofs.Stands.{Stands}
 use Rattle.schema_column.specs.Columns.{column_at}
 use Rattle.schema_column.specs.declared.Column.{Column}
 use Rattle.stats_file.specs.Header.{records_of, Group, Groups, Header}
-use Rattle.stats_file.specs.Said.{said_grouped, said_headed}
 use Rattle.stats_file.specs.declared.columns.Sizes.{Sizes}
-use Rattle.stats_file.specs.declared.columns.Grouped.{Grouped}
 use Rattle.stats_file.specs.declared.header.Head.{Head}
-use Rattle.stats_file.specs.declared.header.Headed.{Headed}
 
 -- the n columns whose records stand from place at on
 unfoldable pub columns_from : List ℕ → ℕ → ℕ → List Column
@@ -27,8 +24,8 @@ pub record Holds (d : List ℕ) (k : ℕ) (cs : List Column) : Type 0 where
   pub kept : Kept d k
 
 -- ---- what is read, apart from the columns: those are in the buffer
-unfoldable pub place_after : {A : Type 0} → Got A → Got ℕ
-place_after (got a n) = got 0 n
+unfoldable pub place_after : {A : Type 0} → Got A → Got (Unit {0})
+place_after (got a n) = got tt n
 place_after (bad f p) = bad f p
 
 unfoldable pub count_in : Got Group → Got ℕ
@@ -48,31 +45,31 @@ abbrev pub column_count : Sizes → ℕ
 column_count z = 1 + z.clustering + z.statics + z.regulars
 
 -- a column is read behind the k that d holds, as x; d becomes d', and r is the answer
-pub record Adds (x : Got Column) (k : ℕ) (d d' : List ℕ) (r : Num) : Type 0 where
-  pub answer : said_num r ≡ place_after x
+pub record Adds (x : Got Column) (k : ℕ) (d d' : List ℕ) (r : Result ℕ Bad) : Type 0 where
+  pub answer : said_place r ≡ place_after x
   pub same : length d' ≡ length d
   pub holds : (c : Column) (n : ℕ) → x ≡ got c n → Holds d' (k + 1) (columns_from d 0 k ++ (c ∷ []))
 
 -- n columns are read behind the k that d holds, as x; d becomes d', and r is the answer
-pub record Fills (x : Got (List Column)) (k : ℕ) (d d' : List ℕ) (r : Num) : Type 0 where
-  pub answer : said_num r ≡ place_after x
+pub record Fills (x : Got (List Column)) (k : ℕ) (d d' : List ℕ) (r : Result ℕ Bad) : Type 0 where
+  pub answer : said_place r ≡ place_after x
   pub same : length d' ≡ length d
   pub holds : (cs : List Column) (n : ℕ) → x ≡ got cs n → Holds d' k cs
 
 -- a count and so many columns are read behind the k that d holds
-pub record FillsGroup (x : Got Group) (k : ℕ) (d d' : List ℕ) (r : Num) : Type 0 where
-  pub answer : said_num r ≡ count_in x
+pub record FillsGroup (x : Got Group) (k : ℕ) (d d' : List ℕ) (r : Reading ℕ) : Type 0 where
+  pub answer : said r ≡ count_in x
   pub same : length d' ≡ length d
   pub holds : (g : Group) (n : ℕ) → x ≡ got g n → Holds d' (k + g.count) g.columns
 
 -- the groups are read behind the key that d holds
-pub record FillsGroups (x : Got Groups) (d d' : List ℕ) (r : Grouped) : Type 0 where
-  pub answer : said_grouped r ≡ sizes_in x
+pub record FillsGroups (x : Got Groups) (d d' : List ℕ) (r : Reading Sizes) : Type 0 where
+  pub answer : said r ≡ sizes_in x
   pub same : length d' ≡ length d
   pub holds : (g : Groups) (n : ℕ) → x ≡ got g n → Holds d' (column_count g.sizes) g.columns
 
 -- a header is read
-pub record FillsHeader (x : Got Header) (d d' : List ℕ) (r : Headed) : Type 0 where
-  pub answer : said_headed r ≡ head_in x
+pub record FillsHeader (x : Got Header) (d d' : List ℕ) (r : Reading Head) : Type 0 where
+  pub answer : said r ≡ head_in x
   pub same : length d' ≡ length d
   pub holds : (h : Header) (n : ℕ) → x ≡ got h n → Holds d' (column_count h.sizes) h.columns

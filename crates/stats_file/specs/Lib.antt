@@ -1,5 +1,4 @@
 pub mod Bases
 pub mod Header
 pub mod Statistics
-pub mod Said
 pub mod Buffer

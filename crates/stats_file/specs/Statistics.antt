@@ -1,10 +1,11 @@
 -- Statistics: the contents, entry 0 and entry 3, and what reading it answers and fills. Assumes nothing.
-use Rattle.std.specs.Prelude.{◌≡◌, ℕ, List, length, nat_lt}
+use Rattle.std.specs.Prelude.{◌≡◌, ℕ, List, length, nat_lt, Result}
 use Rattle.common.specs.Choose.{pick}
-use Rattle.common.specs.Got.{Got, got, bad, on}
-use Rattle.common.specs.Refusals.{Outcome, taken, refused, said_refusal}
+use Rattle.common.specs.Got.{Got, got, bad, on, Reading, said}
+use Rattle.common.specs.Refusals.{Outcome, taken, refused, outcome}
 use Rattle.common.specs.Store.{splice}
 use Rattle.common.specs.declared.refusal.Fault.TheVariants.{OverLimit, NoRoom}
+use Rattle.common.specs.declared.refusal.Refusal.{Refusal}
 use Rattle.common.specs.declared.refusal.Slice.TheVariants.{Statistics, Output}
 use Rattle.stats_contents.specs.Contents.{contents_at, end_of}
 use Rattle.stats_validation.specs.Validation.{validation_at}
@@ -13,10 +14,6 @@ use Rattle.stats_validation.specs.declared.Validation.{Validation}
 use Rattle.stats_file.specs.Header.{Header, header_at, records_of}
 use Rattle.stats_file.specs.declared.Table.{Table}
 use Rattle.stats_file.specs.Buffer.{Holds, column_count}
-use Rattle.stats_file.specs.declared.Entered.{Entered}
-use Rattle.stats_file.specs.declared.Entered.TheVariants.{Whole, Bad}
-use Rattle.stats_file.specs.declared.Answer.{Answer}
-use Rattle.stats_file.specs.declared.Answer.TheVariants.{Read, Refused}
 
 -- both entries
 pub record File : Type 0 where
@@ -79,28 +76,19 @@ schema_in s d =
     (pick (nat_lt 1073741824 (length d)) d
     (filled_in (file_at s) d))
 
--- what the code's answer says
-unfoldable pub said_answer : Answer → Outcome Table
-said_answer (Read t) = taken t
-said_answer (Refused r) = said_refusal r
-
 -- the file s is read, r is the answer, and the buffer d becomes d'
-pub record Reads (s d d' : List ℕ) (r : Answer) : Type 0 where
-  pub answer : said_answer r ≡ statistics_of s d
+pub record Reads (s d d' : List ℕ) (r : Result Table Refusal) : Type 0 where
+  pub answer : outcome r ≡ statistics_of s d
   pub buffer : d' ≡ schema_in s d
 
 -- ---- inside the call
-unfoldable pub said_entered : Entered → Outcome Table
-said_entered (Whole t) = taken t
-said_entered (Bad f p) = refused f Statistics p
-
 -- the table, without its columns: those are in the buffer
-unfoldable pub table_in : Got File → Outcome Table
-table_in (got x n) = taken (table_of x)
-table_in (bad f p) = refused f Statistics p
+unfoldable pub table_in : Got File → Got Table
+table_in (got x n) = got (table_of x) n
+table_in (bad f p) = bad f p
 
 -- both entries are read, as x; the records are made in d, which becomes d', and r is the answer
-pub record FillsFile (x : Got File) (d d' : List ℕ) (r : Entered) : Type 0 where
-  pub answer : said_entered r ≡ table_in x
+pub record FillsFile (x : Got File) (d d' : List ℕ) (r : Reading Table) : Type 0 where
+  pub answer : said r ≡ table_in x
   pub same : length d' ≡ length d
   pub holds : (f : File) (n : ℕ) → x ≡ got f n → Holds d' (column_count f.header.sizes) f.header.columns

@@ -1,20 +1,19 @@
 // The columns of the header, and the schema records that they give. The records are made in a buffer of the reader's own, where the
 // names that were read are found again; so whatever is refused, the caller's buffer is as it was.
+ghost use Rattle.common.specs.Got.{said};
 ghost use Rattle.std.specs.Prelude.{◌≡◌, ◌+◌, ◌*◌, ◌≤◌, length};
-ghost use Rattle.common.specs.Got.{said_num};
 ghost use Rattle.common.specs.Store.{Room, Puts, shown};
 ghost use Rattle.stats_file.specs.Header.{column, count_at, typed_at, is_named, name_at, named_at, column_at, columns_at, group_at, groups_at, head_of, place_of, tail_of, record_of};
 ghost use Rattle.stats_file.specs.Buffer.{columns_from, Kept, Adds, Fills, FillsGroup, FillsGroups};
-ghost use Rattle.stats_file.specs.Said.{said_named, said_column};
 ghost use Rattle.schema_check.specs.Records.{most_of};
 ghost use Rattle.schema_column.specs.Columns.{name_of};
 ghost use Rattle.text.specs.Text.{same};
 
-use common::number::Num;
 use common::part;
+use common::reading::{Bad, Reading};
 use common::refusal::Fault;
 use schema_column::Column;
-use type_string::{Kind, Typed};
+use type_string::Kind;
 
 // Where a name stands.
 #[derive(Clone, Copy)]
@@ -23,33 +22,12 @@ pub struct Name {
     pub len: usize,
 }
 
-#[derive(Clone, Copy)]
-pub enum Named {
-    // The name's place, and the place after it.
-    Is { name: Name, next: usize },
-    Refused { fault: Fault, place: usize },
-}
-
 // How many clustering, static and regular columns there are.
 #[derive(Clone, Copy)]
 pub struct Sizes {
     pub clustering: u64,
     pub statics: u64,
     pub regulars: u64,
-}
-
-#[derive(Clone, Copy)]
-pub enum Grouped {
-    // The sizes, and the place after the columns.
-    Counts { sizes: Sizes, next: usize },
-    Refused { fault: Fault, place: usize },
-}
-
-#[derive(Clone, Copy)]
-pub enum Found {
-    // A column, and the place after it.
-    Is { column: Column, next: usize },
-    Refused { fault: Fault, place: usize },
 }
 
 // The most columns of a role that has a count.
@@ -66,21 +44,14 @@ fn most_of(role: u8) -> u64
 }
 
 // A count of columns of the role.
-fn count(s: &[u8], at: usize, end: usize, role: u8) -> Num
-    ensures { said_num result ≡ count_at role s.now at end }
+fn count(s: &[u8], at: usize, end: usize, role: u8) -> Reading<u64>
+    ensures { said result ≡ count_at role s.now at end }
 {
-    match number_varint::read(s, at, end) {
-        Num::Number { value, next } => {
-            if most_of(role) < value {
-                return Num::Refused {
-                    fault: Fault::TooMany,
-                    place: at,
-                };
-            }
-            Num::Number { value, next }
-        }
-        Num::Refused { fault, place } => Num::Refused { fault, place },
+    let (value, next) = number_varint::read(s, at, end)?;
+    if most_of(role) < value {
+        return Err(Fault::TooMany.at(at));
     }
+    Ok((value, next))
 }
 
 // Stores the first four bytes of a column's record.
@@ -154,84 +125,53 @@ fn is_named(s: &[u8], d: &[u8], k: usize, start: usize, len: usize) -> bool
     requires { 16 * k ≤ length d.now }
     ensures { result ≡ is_named s.now (shown s.now start len) (columns_from d.now 0 k) }
 {
-    let mut i: usize = 0;
-    while i < k {
+    for i in 0..k {
         let at = 16 * i;
-        if d[at] < 2 {
-            i += 1;
-            continue;
-        }
-        if has_name(s, d, at, start, len) {
+        if 2 <= d[at] && has_name(s, d, at, start, len) {
             return true;
         }
-        i += 1;
     }
     false
 }
 
 // The next name, behind the k columns that d holds.
-fn read_name(s: &[u8], at: usize, end: usize, d: &[u8], k: usize) -> Named
+fn read_name(s: &[u8], at: usize, end: usize, d: &[u8], k: usize) -> Reading<Name>
     requires { 16 * k ≤ length d.now }
-    ensures { said_named result ≡ name_at (columns_from d.now 0 k) s.now at end }
+    ensures { said result ≡ name_at (columns_from d.now 0 k) s.now at end }
 {
-    match number_varint::read(s, at, end) {
-        Num::Number { value, next } => {
-            if ((end - next) as u64) < value {
-                return Named::Refused {
-                    fault: Fault::PastEnd,
-                    place: at,
-                };
-            }
-            let len = value as usize;
-            if is_named(s, d, k, next, len) {
-                return Named::Refused {
-                    fault: Fault::Repeated,
-                    place: next,
-                };
-            }
-            Named::Is {
-                name: Name { start: next, len },
-                next: next + len,
-            }
-        }
-        Num::Refused { fault, place } => Named::Refused { fault, place },
+    let (value, start) = number_varint::read(s, at, end)?;
+    if ((end - start) as u64) < value {
+        return Err(Fault::PastEnd.at(at));
     }
+    let len = value as usize;
+    if is_named(s, d, k, start, len) {
+        return Err(Fault::Repeated.at(start));
+    }
+    Ok((Name { start, len }, start + len))
 }
 
 // The next key or clustering column.
-fn read_typed(s: &[u8], at: usize, end: usize, role: u8) -> Found
-    ensures { said_column result ≡ typed_at role s.now at end }
+fn read_typed(s: &[u8], at: usize, end: usize, role: u8) -> Reading<Column>
+    ensures { said result ≡ typed_at role s.now at end }
 {
-    match type_string::read(s, at, end, false) {
-        Typed::Known { kind, next } => Found::Is {
-            column: column_of(role, kind, 0, 0),
-            next,
-        },
-        Typed::Refused { fault, place } => Found::Refused { fault, place },
-    }
+    let (kind, next) = type_string::read(s, at, end, false)?;
+    Ok((column_of(role, kind, 0, 0), next))
 }
 
 // The next static or regular column, behind the k columns that d holds.
-fn read_named(s: &[u8], at: usize, end: usize, d: &[u8], k: usize, role: u8) -> Found
+fn read_named(s: &[u8], at: usize, end: usize, d: &[u8], k: usize, role: u8) -> Reading<Column>
     requires { 16 * k ≤ length d.now }
-    ensures { said_column result ≡ named_at role (columns_from d.now 0 k) s.now at end }
+    ensures { said result ≡ named_at role (columns_from d.now 0 k) s.now at end }
 {
-    match read_name(s, at, end, d, k) {
-        Named::Is { name, next } => match type_string::read(s, next, end, true) {
-            Typed::Known { kind, next: after } => Found::Is {
-                column: column_of(role, kind, name.start, name.len),
-                next: after,
-            },
-            Typed::Refused { fault, place } => Found::Refused { fault, place },
-        },
-        Named::Refused { fault, place } => Found::Refused { fault, place },
-    }
+    let (name, next) = read_name(s, at, end, d, k)?;
+    let (kind, next) = type_string::read(s, next, end, true)?;
+    Ok((column_of(role, kind, name.start, name.len), next))
 }
 
 // The next column of the role, behind the k columns that d holds.
-fn read_column(s: &[u8], at: usize, end: usize, d: &[u8], k: usize, role: u8) -> Found
+fn read_column(s: &[u8], at: usize, end: usize, d: &[u8], k: usize, role: u8) -> Reading<Column>
     requires { 16 * k ≤ length d.now }
-    ensures { said_column result ≡ column_at role (columns_from d.now 0 k) s.now at end }
+    ensures { said result ≡ column_at role (columns_from d.now 0 k) s.now at end }
 {
     if role < 2 {
         return read_typed(s, at, end, role);
@@ -239,21 +179,24 @@ fn read_column(s: &[u8], at: usize, end: usize, d: &[u8], k: usize, role: u8) ->
     read_named(s, at, end, d, k, role)
 }
 
-// Reads a column of the role behind the k that d holds, and stores its record.
-fn add_column(s: &[u8], at: usize, end: usize, d: &mut [u8], k: usize, role: u8) -> Num
+// Reads a column of the role behind the k that d holds, and stores its record; gives the place after it.
+fn add_column(
+    s: &[u8],
+    at: usize,
+    end: usize,
+    d: &mut [u8],
+    k: usize,
+    role: u8,
+) -> Result<usize, Bad>
     requires { Kept d.old k × (16 * (k + 1) ≤ length d.old) × (length s.now ≤ 1073741824) }
     ensures { Adds (column_at role (columns_from d.old 0 k) s.now at end) k d.old d.new result }
 {
-    match read_column(s, at, end, d, k, role) {
-        Found::Is { column, next } => {
-            put_record(d, 16 * k, column);
-            Num::Number { value: 0, next }
-        }
-        Found::Refused { fault, place } => Num::Refused { fault, place },
-    }
+    let (column, next) = read_column(s, at, end, d, k, role)?;
+    put_record(d, 16 * k, column);
+    Ok(next)
 }
 
-// Reads n columns of the role behind the `first` that d holds, and stores their records.
+// Reads n columns of the role behind the `first` that d holds, and stores their records; gives the place after them.
 pub(crate) fn read_columns(
     s: &[u8],
     at: usize,
@@ -262,24 +205,15 @@ pub(crate) fn read_columns(
     first: usize,
     n: usize,
     role: u8,
-) -> Num
+) -> Result<usize, Bad>
     requires { Kept d.old first × (16 * (first + n) ≤ length d.old) × (length s.now ≤ 1073741824) }
     ensures { Fills (columns_at n role (columns_from d.old 0 first) s.now at end) (first + n) d.old d.new result }
 {
     let mut p = at;
-    let mut i: usize = 0;
-    while i < n {
-        match add_column(s, p, end, d, first + i, role) {
-            Num::Number { value: _, next } => {
-                p = next;
-                i += 1;
-            }
-            Num::Refused { fault, place } => {
-                return Num::Refused { fault, place };
-            }
-        }
+    for i in 0..n {
+        p = add_column(s, p, end, d, first + i, role)?;
     }
-    Num::Number { value: 0, next: p }
+    Ok(p)
 }
 
 // Reads a count and so many columns of the role behind the `first` that d holds.
@@ -290,56 +224,31 @@ pub(crate) fn read_group(
     d: &mut [u8],
     first: usize,
     role: u8,
-) -> Num
+) -> Reading<u64>
     requires { Kept d.old first × (16 * (first + most_of role) ≤ length d.old) × (length s.now ≤ 1073741824) }
     ensures { FillsGroup (group_at role (columns_from d.old 0 first) s.now at end) first d.old d.new result }
 {
-    match count(s, at, end, role) {
-        Num::Number { value, next } => match read_columns(
-            s,
-            next,
-            end,
-            d,
-            first,
-            value as usize,
-            role,
-        ) {
-            Num::Number {
-                value: _,
-                next: after,
-            } => Num::Number { value, next: after },
-            Num::Refused { fault, place } => Num::Refused { fault, place },
-        },
-        Num::Refused { fault, place } => Num::Refused { fault, place },
-    }
+    let (n, next) = count(s, at, end, role)?;
+    let next = read_columns(s, next, end, d, first, n as usize, role)?;
+    Ok((n, next))
 }
 
 // Reads the clustering, static and regular columns behind the key that d holds.
-pub(crate) fn read_groups(s: &[u8], at: usize, end: usize, d: &mut [u8]) -> Grouped
+pub(crate) fn read_groups(s: &[u8], at: usize, end: usize, d: &mut [u8]) -> Reading<Sizes>
     requires { Kept d.old 1 × (length d.old ≡ 2544) × (length s.now ≤ 1073741824) }
     ensures { FillsGroups (groups_at (columns_from d.old 0 1) s.now at end) d.old d.new result }
 {
-    match read_group(s, at, end, d, 1, 1) {
-        Num::Number { value: k, next: a } => {
-            let second = 1 + k as usize;
-            match read_group(s, a, end, d, second, 2) {
-                Num::Number { value: m, next: b } => {
-                    let third = second + m as usize;
-                    match read_group(s, b, end, d, third, 3) {
-                        Num::Number { value: r, next } => Grouped::Counts {
-                            sizes: Sizes {
-                                clustering: k,
-                                statics: m,
-                                regulars: r,
-                            },
-                            next,
-                        },
-                        Num::Refused { fault, place } => Grouped::Refused { fault, place },
-                    }
-                }
-                Num::Refused { fault, place } => Grouped::Refused { fault, place },
-            }
-        }
-        Num::Refused { fault, place } => Grouped::Refused { fault, place },
-    }
+    let (clustering, next) = read_group(s, at, end, d, 1, 1)?;
+    let second = 1 + clustering as usize;
+    let (statics, next) = read_group(s, next, end, d, second, 2)?;
+    let third = second + statics as usize;
+    let (regulars, next) = read_group(s, next, end, d, third, 3)?;
+    Ok((
+        Sizes {
+            clustering,
+            statics,
+            regulars,
+        },
+        next,
+    ))
 }

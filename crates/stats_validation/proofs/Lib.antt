@@ -1,3 +1,2 @@
--- What the code's answers say (Said), and the double (Doubles).
-pub mod Said
+-- When bits are a NaN's (Doubles).
 pub mod Doubles

@@ -9,10 +9,6 @@ use Rattle.number_fixed.specs.BigEndian.{fixed_at}
 use Rattle.common.specs.declared.refusal.Fault.TheVariants.{PastEnd, LeftOver, OutOfRange}
 use Rattle.stats_validation.specs.declared.Chance.{Chance}
 use Rattle.stats_validation.specs.declared.Validation.{Validation}
-use Rattle.stats_validation.specs.declared.Chances.{Chances}
-use Rattle.stats_validation.specs.declared.Chances.TheVariants.{Taken, Refused as chance-refused}
-use Rattle.stats_validation.specs.declared.Validated.{Validated}
-use Rattle.stats_validation.specs.declared.Validated.TheVariants.{Entry, Refused as entry-refused}
 
 -- the doubles 0 and 1
 abbrev pub zero64 : Float
@@ -41,12 +37,3 @@ validation_at s at end =
     (on (chance_at s (n + len) end) (λ x m.
     pick (ltb m end) (bad LeftOver m)
     (got (record { name = n; len = len; chance = x }) m))))
-
--- what the code's answers say
-unfoldable pub said_chance : Chances → Got Chance
-said_chance (Taken x n) = got x n
-said_chance (chance-refused f p) = bad f p
-
-unfoldable pub said_validated : Validated → Got Validation
-said_validated (Entry v n) = got v n
-said_validated (entry-refused f p) = bad f p

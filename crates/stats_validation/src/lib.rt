@@ -1,10 +1,11 @@
 // Entry 0 of Statistics.
 #![tactic(auto)]
 
+ghost use Rattle.common.specs.Got.{said};
 ghost use Rattle.std.specs.Prelude.{◌≡◌};
-ghost use Rattle.stats_validation.specs.Validation.{chance_of, chance_at, validation_at, said_chance, said_validated};
+ghost use Rattle.stats_validation.specs.Validation.{chance_of, chance_at, validation_at};
 
-use common::number::Num;
+use common::reading::Reading;
 use common::refusal::Fault;
 
 // The bloom filter's false-positive chance: the double, and its bits as they stand.
@@ -22,92 +23,43 @@ pub struct Validation {
     pub chance: Chance,
 }
 
-#[derive(Clone, Copy)]
-pub enum Chances {
-    // The chance, and the place after it.
-    Taken { chance: Chance, next: usize },
-    Refused { fault: Fault, place: usize },
-}
-
-#[derive(Clone, Copy)]
-pub enum Validated {
-    // The entry, and the place after it.
-    Entry { validation: Validation, next: usize },
-    Refused { fault: Fault, place: usize },
-}
-
 // The chance of the bits that stand at at, up to next: refused unless it compares between 0 and 1.
-fn chance_of(bits: u64, at: usize, next: usize) -> Chances
-    ensures { said_chance result ≡ chance_of bits at next }
+fn chance_of(bits: u64, at: usize, next: usize) -> Reading<Chance>
+    ensures { said result ≡ chance_of bits at next }
 {
     // A NaN has all bits of the exponent set, and some of the rest.
     if 0x7FF0_0000_0000_0000 < bits % 0x8000_0000_0000_0000 {
-        return Chances::Refused {
-            fault: Fault::OutOfRange,
-            place: at,
-        };
+        return Err(Fault::OutOfRange.at(at));
     }
     let value = f64::from_bits(bits);
     if 0.0 <= value {
         if value <= 1.0 {
-            return Chances::Taken {
-                chance: Chance { value, bits },
-                next,
-            };
+            return Ok((Chance { value, bits }, next));
         }
     }
-    Chances::Refused {
-        fault: Fault::OutOfRange,
-        place: at,
-    }
+    Err(Fault::OutOfRange.at(at))
 }
 
-fn chance_at(s: &[u8], at: usize, end: usize) -> Chances
-    ensures { said_chance result ≡ chance_at s.now at end }
+fn chance_at(s: &[u8], at: usize, end: usize) -> Reading<Chance>
+    ensures { said result ≡ chance_at s.now at end }
 {
-    match number_fixed::read(s, at, end, 8) {
-        Num::Number { value, next } => chance_of(value, at, next),
-        Num::Refused { fault, place } => Chances::Refused { fault, place },
-    }
+    let (bits, next) = number_fixed::read(s, at, end, 8)?;
+    chance_of(bits, at, next)
 }
 
 // The whole entry, from at up to end.
 // Internal: for the crates above.
-pub fn read(s: &[u8], at: usize, end: usize) -> Validated
-    ensures { said_validated result ≡ validation_at s.now at end }
+pub fn read(s: &[u8], at: usize, end: usize) -> Reading<Validation>
+    ensures { said result ≡ validation_at s.now at end }
 {
-    match number_fixed::read(s, at, end, 2) {
-        Num::Number { value, next } => {
-            let len = value as usize;
-            if end - next < len {
-                return Validated::Refused {
-                    fault: Fault::PastEnd,
-                    place: at,
-                };
-            }
-            match chance_at(s, next + len, end) {
-                Chances::Taken {
-                    chance,
-                    next: after,
-                } => {
-                    if after < end {
-                        return Validated::Refused {
-                            fault: Fault::LeftOver,
-                            place: after,
-                        };
-                    }
-                    Validated::Entry {
-                        validation: Validation {
-                            name: next,
-                            len,
-                            chance,
-                        },
-                        next: after,
-                    }
-                }
-                Chances::Refused { fault, place } => Validated::Refused { fault, place },
-            }
-        }
-        Num::Refused { fault, place } => Validated::Refused { fault, place },
+    let (value, name) = number_fixed::read(s, at, end, 2)?;
+    let len = value as usize;
+    if end - name < len {
+        return Err(Fault::PastEnd.at(at));
     }
+    let (chance, next) = chance_at(s, name + len, end)?;
+    if next < end {
+        return Err(Fault::LeftOver.at(next));
+    }
+    Ok((Validation { name, len, chance }, next))
 }

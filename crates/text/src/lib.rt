@@ -9,17 +9,7 @@ ghost use Rattle.text.specs.Text.{same, among, starts_with};
 pub fn equal(a: &[u8], b: &[u8]) -> bool
     ensures { result ≡ same a.now b.now }
 {
-    if a.len() != b.len() {
-        return false;
-    }
-    let mut i: usize = 0;
-    while i < a.len() {
-        if a[i] != b[i] {
-            return false;
-        }
-        i += 1;
-    }
-    true
+    a == b
 }
 
 // Whether s begins with the prefix.
@@ -27,11 +17,7 @@ pub fn equal(a: &[u8], b: &[u8]) -> bool
 pub fn starts_with(s: &[u8], prefix: &[u8]) -> bool
     ensures { result ≡ starts_with s.now prefix.now }
 {
-    let n = prefix.len();
-    if s.len() < n {
-        return false;
-    }
-    equal(&s[0..n], prefix)
+    s.starts_with(prefix)
 }
 
 // Whether c is one of the bytes.
@@ -39,12 +25,5 @@ pub fn starts_with(s: &[u8], prefix: &[u8]) -> bool
 pub fn among(c: u8, bytes: &[u8]) -> bool
     ensures { result ≡ among c bytes.now }
 {
-    let mut i: usize = 0;
-    while i < bytes.len() {
-        if c == bytes[i] {
-            return true;
-        }
-        i += 1;
-    }
-    false
+    bytes.contains(&c)
 }

@@ -1,4 +1,6 @@
 -- Balanced parentheses: what stands inside an inner pair is scanned by itself, and then what follows it. Assumes nothing.
+use Rattle.std.proofs.Common.{Result, Ok, Err}
+use Rattle.std.specs.Result.{IsErr, IsErrAnd}
 use mathlib.Core.Path.{◌≡◌, refl, sym, ap, subst, ◌∙◌}
 use mathlib.Core.Bool.{Bool, true, false}
 use mathlib.Core.List.{List, [], ◌∷◌}
@@ -11,8 +13,6 @@ use Rattle.common.specs.Choose.{pick}
 use Rattle.common.specs.declared.refusal.Fault.{Fault}
 use Rattle.common.specs.declared.refusal.Fault.TheVariants.{NotCarried, TooMany}
 use Rattle.common.proofs.Choose.{pick_yes, pick_no, pick_ind}
-use Rattle.type_name.specs.declared.Skip.{Skip}
-use Rattle.type_name.specs.declared.Skip.TheVariants.{Behind, Faulty}
 use Rattle.type_name.specs.Names.{of_parameters, Closed, closed, faulty, counted, inside}
 use Rattle.type_name.specs.Parts.{said_skip}
 use Rattle.text.specs.Text.{rest}
@@ -86,7 +86,7 @@ pub balancing_none : (s : List ℕ) (at left : ℕ) → Balancing s at left at
 balancing_none s at left = record { same = refl }
 
 module _ (s : List ℕ) (at left i : ℕ) (c : Balancing s at left i) where
-  pub balancing_end : length s ≤ i → said_skip s (Faulty NotCarried) ≡ inside left 0 (rest s at)
+  pub balancing_end : length s ≤ i → said_skip s (Err NotCarried) ≡ inside left 0 (rest s at)
   unfolding inside said_skip
   balancing_end h = sym (rw (rest_none s i h) refl) ∙ c.same
 
@@ -98,12 +98,12 @@ module _ (s : List ℕ) (at left i : ℕ) (c : Balancing s at left i) where
     unfolding inside counted
     step = rw (rest_some s i h)
 
-    pub balancing_deep : get_or s i 0 ≡ 40 → left ≡ 0 → said_skip s (Faulty TooMany) ≡ inside left 0 (rest s at)
+    pub balancing_deep : get_or s i 0 ≡ 40 → left ≡ 0 → said_skip s (Err TooMany) ≡ inside left 0 (rest s at)
     unfolding said_skip counted
     balancing_deep e z = pick_yes _ _ _ _ (eq-eqb _ _ e) (rw z refl) ∙ sym step ∙ c.same
 
     module _ (n : get_or s i 0 ≡ 40 → ⊥) where
-      pub balancing_close : get_or s i 0 ≡ 41 → said_skip s (Behind (i + 1)) ≡ inside left 0 (rest s at)
+      pub balancing_close : get_or s i 0 ≡ 41 → said_skip s (Ok (i + 1)) ≡ inside left 0 (rest s at)
       unfolding said_skip
       balancing_close e = pick_no _ _ _ _ (ne_eqb _ _ n) (pick_yes _ _ _ _ (eq-eqb _ _ e) refl) ∙ sym step ∙ c.same
 
@@ -113,7 +113,7 @@ module _ (s : List ℕ) (at left i : ℕ) (c : Balancing s at left i) where
           same = pick_no _ _ _ _ (ne_eqb _ _ n) (pick_no _ _ _ _ (ne_eqb _ _ m) (pick_yes _ _ _ _ (sym e ∙ t) refl)) ∙ sym step ∙ c.same;
         }
 
-        pub balancing_bad : b ≡ false → said_skip s (Faulty NotCarried) ≡ inside left 0 (rest s at)
+        pub balancing_bad : b ≡ false → said_skip s (Err NotCarried) ≡ inside left 0 (rest s at)
         unfolding said_skip
         balancing_bad t = pick_no _ _ _ _ (ne_eqb _ _ n) (pick_no _ _ _ _ (ne_eqb _ _ m) (pick_no _ _ _ _ (sym e ∙ t) refl)) ∙ sym step ∙ c.same
 
@@ -124,7 +124,7 @@ counted_some zero a f h = absurd (h refl)
 counted_some (suc n) a f h = ap f (omega arith)
 
 module _ (s : List ℕ) (at left i : ℕ) (c : Balancing s at left i) (h : i < length s) (e : get_or s i 0 ≡ 40) (z : left ≡ 0 → ⊥)
-    (r : Skip) (g : said_skip s r ≡ inside (left - 1) 0 (rest s (i + 1))) where
+    (r : Result ℕ Fault) (g : said_skip s r ≡ inside (left - 1) 0 (rest s (i + 1))) where
   inner : inside left 0 (rest s at) ≡ then (said_skip s r) (inside left 0)
   unfolding Nested
   inner =
@@ -132,15 +132,16 @@ module _ (s : List ℕ) (at left i : ℕ) (c : Balancing s at left i) (h : i < l
       sym c.same ∙ step s at left i c h ∙ sym (pick_yes _ _ _ _ (eq-eqb _ _ e) refl)
       ∙ counted_some left _ _ z ∙ nested (rest s (i + 1)) (left - 1) 0 ∙ rw (g, k) refl
 
-  pub inner_behind : (n : ℕ) → r ≡ Behind n → Balancing s at left n
+  pub inner_behind : (n : ℕ) → r ≡ Ok n → Balancing s at left n
   unfolding then said_skip
   inner_behind n f = record { same = sym (inner ∙ rw f refl) }
 
-  pub inner_faulty : (x : Fault) → r ≡ Faulty x → said_skip s r ≡ inside left 0 (rest s at)
+  pub inner_faulty : (x : Fault) (w : Result ℕ Fault) → r ≡ Err x → IsErr w × IsErrAnd w (λ z. z ≡ x) → said_skip s w ≡ inside left 0 (rest s at)
   unfolding then said_skip
-  inner_faulty x f = sym (inner ∙ rw f refl)
+  inner_faulty x (Ok n) f d = absurd d.1
+  inner_faulty x (Err y) f d = rw d.1 (sym (inner ∙ rw f refl))
 
-  pub inner_less : (n : ℕ) → r ≡ Behind n → length s - n < length s - i
+  pub inner_less : (n : ℕ) → r ≡ Ok n → length s - n < length s - i
   unfolding said_skip Shorter
   inner_less n f =
       let d : closed (rest s n) ≡ inside (left - 1) 0 (rest s (i + 1)) = rw f at g in

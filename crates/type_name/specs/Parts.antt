@@ -1,12 +1,11 @@
 -- What the parts of the code promise to each other, in terms of the definitions. Assumes nothing.
-use Rattle.std.specs.Prelude.{ℕ, ◌-◌, ◌≤◌, ◌≡◌, Bool, List, [], length}
+use Rattle.std.specs.Prelude.{ℕ, ◌-◌, ◌≤◌, ◌≡◌, Bool, List, [], length, Result, Ok, Err}
 use Rattle.common.specs.Choose.{pick}
 use Rattle.common.specs.Store.{part}
+use Rattle.common.specs.declared.refusal.Fault.{Fault}
 use Rattle.text.specs.Text.{rest, same}
 use Rattle.type_table.specs.Table.{bytes_line}
 use Rattle.type_name.specs.declared.Name.{Name}
-use Rattle.type_name.specs.declared.Skip.{Skip}
-use Rattle.type_name.specs.declared.Skip.TheVariants.{Behind, Faulty}
 use Rattle.type_name.specs.Names.{blank, of_name, past, up_to, named, Closed, closed, faulty}
 
 -- the characters of s that pass the test from place at on reach up to place n
@@ -27,6 +26,6 @@ pub record NameAt (s : List ℕ) (at : ℕ) (r : Name) : Type 0 where
   pub left : rest s r.next ≡ past blank (past of_name (past blank (rest s at)))
 
 -- what the code's answer says
-unfoldable pub said_skip : List ℕ → Skip → Closed
-said_skip s (Behind n) = closed (rest s n)
-said_skip s (Faulty f) = faulty f
+unfoldable pub said_skip : List ℕ → Result ℕ Fault → Closed
+said_skip s (Ok n) = closed (rest s n)
+said_skip s (Err f) = faulty f

@@ -18,15 +18,12 @@ fn skip_blanks(s: &[u8], at: usize) -> usize
     requires { at ≤ length s.now }
     ensures { Passed blank s.now at result }
 {
-    let mut i = at;
-    while i < s.len() {
-        if characters::is_blank(s[i]) {
-            i += 1;
-        } else {
+    for i in at..s.len() {
+        if !characters::is_blank(s[i]) {
             return i;
         }
     }
-    i
+    s.len()
 }
 
 // The place behind the name from at on.
@@ -34,15 +31,12 @@ fn name_end(s: &[u8], at: usize) -> usize
     requires { at ≤ length s.now }
     ensures { Passed of_name s.now at result }
 {
-    let mut i = at;
-    while i < s.len() {
-        if characters::is_name(s[i]) {
-            i += 1;
-        } else {
+    for i in at..s.len() {
+        if !characters::is_name(s[i]) {
             return i;
         }
     }
-    i
+    s.len()
 }
 
 // The line that a name means, or 0.
@@ -82,45 +76,30 @@ pub fn name_at(s: &[u8], at: usize) -> Name
     }
 }
 
-// What a part in parentheses is followed by.
-#[derive(Clone, Copy)]
-pub enum Skip {
-    // The place behind it.
-    Behind(usize),
-    Faulty(Fault),
-}
-
 // From at on, inside parentheses, where left more may open: up to the one that closes them. Each inner pair is a call with one less left.
 // Internal: of a type string.
-pub fn inside(s: &[u8], at: usize, left: u8) -> Skip
+pub fn inside(s: &[u8], at: usize, left: u8) -> Result<usize, Fault>
     ensures { said_skip s.now result ≡ inside left 0 (rest s.now at) }
 {
     let mut i = at;
+    // A step goes past a character, or past a whole part in parentheses.
     while i < s.len() {
         let c = s[i];
         if c == b'(' {
             if left == 0 {
-                return Skip::Faulty(Fault::TooMany);
+                return Err(Fault::TooMany);
             }
-            let inner = inside(s, i + 1, left - 1);
-            match inner {
-                Skip::Behind(n) => {
-                    i = n;
-                }
-                Skip::Faulty(_) => {
-                    return inner;
-                }
-            }
+            i = inside(s, i + 1, left - 1)?;
         } else {
             if c == b')' {
-                return Skip::Behind(i + 1);
+                return Ok(i + 1);
             }
             if characters::is_parameter(c) {
                 i += 1;
             } else {
-                return Skip::Faulty(Fault::NotCarried);
+                return Err(Fault::NotCarried);
             }
         }
     }
-    Skip::Faulty(Fault::NotCarried)
+    Err(Fault::NotCarried)
 }

@@ -1,5 +1,7 @@
 -- What the answers about type strings say, in the direction of a contract. Assumes nothing.
-use mathlib.Core.Path.{◌≡◌, refl, sym, ◌∙◌}
+use Rattle.std.proofs.Common.{Result, Ok, Err}
+use Rattle.std.specs.Result.{IsErr, IsErrAnd}
+use mathlib.Core.Path.{◌≡◌, refl, ◌∙◌}
 use mathlib.Core.Bool.{Bool, true, false}
 use mathlib.Core.List.{List, [], ◌∷◌}
 use Prim.Native.Nat.{ℕ, zero, suc, ◌+◌, ◌-◌, ◌≤◌, ◌<◌}
@@ -8,25 +10,17 @@ use borrow.Author.Tests.{eq-eqb, ne_eqb, leb-true, leb-false}
 use lib.Dec.{eqb, leb, eqb-suc-zero}
 use lib.ListN.{length, get_or, take, drop}
 use Rattle.common.specs.Choose.{pick}
-use Rattle.common.specs.Got.{Got, got, bad, on, said_num}
+use Rattle.common.specs.Got.{Got, got, bad, Reading, said}
 use Rattle.common.specs.Store.{part}
 use Rattle.number_varint.specs.Varints.{varint_at}
-use Rattle.common.specs.declared.number.Num.{Num}
-use Rattle.common.specs.declared.number.Num.TheVariants.{Number}
 use Rattle.common.specs.declared.refusal.Fault.{Fault}
 use Rattle.common.proofs.Choose.{pick_yes, pick_no, bind_self}
 use Rattle.number_varint.proofs.Varints.{varint_within, varint_inside}
 use Rattle.type_string.specs.declared.Kind.{Kind}
-use Rattle.type_string.specs.declared.Typed.{Typed}
-use Rattle.type_string.specs.declared.Typed.TheVariants.{Known as typed-known, Refused as typed-refused}
 use Rattle.type_name.specs.declared.Name.{Name}
-use Rattle.type_name.specs.declared.Skip.{Skip}
-use Rattle.type_name.specs.declared.Skip.TheVariants.{Behind, Faulty}
-use Rattle.type_string.specs.declared.string.Parsed.{Parsed}
-use Rattle.type_string.specs.declared.string.Parsed.TheVariants.{Known, Refused}
 use Rattle.text.specs.Text.{rest, same}
 use Rattle.type_name.specs.Names.{Closed, faulty}
-use Rattle.type_string.specs.Strings.{opened, tail, typed, behind, line_with, string_with, type_of, string_at, said_typed}
+use Rattle.type_string.specs.Strings.{opened, tail, typed, behind, line_with, string_with, type_of, string_at}
 use Rattle.type_name.specs.Parts.{line_named, NameAt, said_skip}
 use Rattle.type_string.specs.Parts.{said_parsed}
 use Rattle.text.proofs.Rest.{rest_all, rest_none, rest_some}
@@ -60,11 +54,17 @@ module _ (s : List ℕ) (at : ℕ) where
 pub ruleset tails = (tail_end, tail_left, tail_other, tail_closed)
 
 -- ---- answers
-pub parsed_known : (k : Kind) (q : Got Kind) → got k 0 ≡ q → said_parsed (Known k) ≡ q
+pub parsed_known : (k : Kind) (q : Got Kind) → got k 0 ≡ q → said_parsed (Ok k) ≡ q
 unfolding said_parsed
 parsed_known k q e = e
 
-pub parsed_refused : (f : Fault) (q : Got Kind) → bad f 0 ≡ q → said_parsed (Refused f) ≡ q
+-- what `?` returns says what it was handed
+pub parsed_again : (w : Result Kind Fault) (f : Fault) (q : Got Kind) → IsErr w × IsErrAnd w (λ z. z ≡ f) → bad f 0 ≡ q → said_parsed w ≡ q
+unfolding said_parsed
+parsed_again (Ok k) f q d e = absurd d.1
+parsed_again (Err g) f q d e = rw d.1 e
+
+pub parsed_refused : (f : Fault) (q : Got Kind) → bad f 0 ≡ q → said_parsed (Err f) ≡ q
 unfolding said_parsed
 parsed_refused f q e = e
 
@@ -101,11 +101,11 @@ module _ (q : Got Kind) (under l : ℕ) where
   unfolding behind
   behind_none f e = e
 
-  pub behind_closed : (s : List ℕ) (r : Skip) (x : Closed) (n : ℕ) → said_skip s r ≡ x → r ≡ Behind n → q ≡ typed under l (rest s n) → q ≡ behind under l x
+  pub behind_closed : (s : List ℕ) (r : Result ℕ Fault) (x : Closed) (n : ℕ) → said_skip s r ≡ x → r ≡ Ok n → q ≡ typed under l (rest s n) → q ≡ behind under l x
   unfolding behind said_skip
   behind_closed s r x n e f g = rw (← e, f) g
 
-  pub behind_faulty : (s : List ℕ) (r : Skip) (x : Closed) (y : Fault) → said_skip s r ≡ x → r ≡ Faulty y → q ≡ bad y 0 → q ≡ behind under l x
+  pub behind_faulty : (s : List ℕ) (r : Result ℕ Fault) (x : Closed) (y : Fault) → said_skip s r ≡ x → r ≡ Err y → q ≡ bad y 0 → q ≡ behind under l x
   unfolding behind said_skip
   behind_faulty s r x y e f g = rw (← e, f) g
 
@@ -121,47 +121,23 @@ whole q column s e = rw (rest_all s) at e
 pub ruleset answers = (parsed_known, parsed_refused, opened_end, opened_other, opened_yes, behind_opened, behind_none, behind_closed, behind_faulty, string_at_lem, whole)
 
 -- ---- in Statistics
-pub typed_is : (k : Kind) (n : ℕ) (q : Got Kind) → got k n ≡ q → said_typed (typed-known k n) ≡ q
-unfolding said_typed
-typed_is k n q e = e
-
-pub typed_bad : (f : Fault) (p : ℕ) (q : Got Kind) → bad f p ≡ q → said_typed (typed-refused f p) ≡ q
-unfolding said_typed
-typed_bad f p q e = e
-
--- for callers: what follows the answer, and what it tells of the definition
-module _ {B : Type 0} (q : Got B) (g : Kind → ℕ → Got B) (r : Typed) (x : Got Kind) (e : said_typed r ≡ x) where
-  pub on_typed : (k : Kind) (n : ℕ) → r ≡ typed-known k n → q ≡ g k n → q ≡ on x g
-  unfolding on said_typed
-  on_typed k n f h = rw (← e, f) h
-
-  pub on_typed_bad : (y : Fault) (p : ℕ) → r ≡ typed-refused y p → q ≡ bad y p → q ≡ on x g
-  unfolding on said_typed
-  on_typed_bad y p f h = rw (← e, f) h
-
-pub typed_got : (r : Typed) (x : Got Kind) (k : Kind) (n : ℕ) → said_typed r ≡ x → r ≡ typed-known k n → x ≡ got k n
-unfolding said_typed
-typed_got r x k n e f = sym e ∙ rw f refl
-
-pub ruleset typing = (on_typed, on_typed_bad)
-
-module _ (q : Got Kind) (column : Bool) (s : List ℕ) (n len : ℕ) (r : Parsed) (e : said_parsed r ≡ type_of column (take (n + len - n) (drop n s))) where
+module _ (q : Got Kind) (column : Bool) (s : List ℕ) (n len : ℕ) (r : Result Kind Fault) (e : said_parsed r ≡ type_of column (take (n + len - n) (drop n s))) where
   whole_part : said_parsed r ≡ type_of column (part s n len)
   unfolding part
   whole_part =
       let d : n + len - n ≡ len = omega arith in
       rw d at e
 
-  pub string_known : (k : Kind) → r ≡ Known k → q ≡ got k (n + len) → q ≡ string_at n (n + len) (type_of column (part s n len))
+  pub string_known : (k : Kind) → r ≡ Ok k → q ≡ got k (n + len) → q ≡ string_at n (n + len) (type_of column (part s n len))
   unfolding string_at said_parsed
   string_known k f g = rw (← whole_part, f) g
 
-  pub string_refused : (f : Fault) → r ≡ Refused f → q ≡ bad f n → q ≡ string_at n (n + len) (type_of column (part s n len))
+  pub string_refused : (f : Fault) → r ≡ Err f → q ≡ bad f n → q ≡ string_at n (n + len) (type_of column (part s n len))
   unfolding string_at said_parsed
   string_refused f h g = rw (← whole_part, h) g
 
-pub ruleset strings = (typed_is, typed_bad, string_known, string_refused)
+pub ruleset strings = (string_known, string_refused)
 
 -- the string that a varint announces lies in the slice
-pub string_inside : (s : List ℕ) (at end : ℕ) (r : Num) (v n : ℕ) → said_num r ≡ varint_at s at end → r ≡ Number v n → v ≤ end - n → n + v ≤ length s
+pub string_inside : (s : List ℕ) (at end : ℕ) (r : Reading ℕ) (v n : ℕ) → said r ≡ varint_at s at end → r ≡ Ok (v, n) → v ≤ end - n → n + v ≤ length s
 string_inside s at end r v n e f h = omega (arith, varint_within r s at end v n e f, varint_inside r s at end v n e f)

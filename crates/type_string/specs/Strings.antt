@@ -8,8 +8,6 @@ use Rattle.common.specs.Got.{Got, got, bad, on, Reader}
 use Rattle.common.specs.Store.{part}
 use Rattle.number_varint.specs.Varints.{varint_at}
 use Rattle.common.specs.declared.refusal.Fault.TheVariants.{PastEnd, NotCarried}
-use Rattle.type_string.specs.declared.Typed.{Typed}
-use Rattle.type_string.specs.declared.Typed.TheVariants.{Known, Refused}
 use Rattle.type_string.specs.declared.Kind.{Kind}
 use Rattle.text.specs.Text.{same}
 use Rattle.type_table.specs.Table.{line_of, bytes_line, reversed_line}
@@ -74,8 +72,3 @@ type_at column s at end =
     on (varint_at s at end) (λ len n.
     pick (ltb (end - n) len) (bad PastEnd at)
     (string_at n (n + len) (type_of column (part s n len))))
-
--- what the code's answer says
-unfoldable pub said_typed : Typed → Got Kind
-said_typed (Known k n) = got k n
-said_typed (Refused f p) = bad f p

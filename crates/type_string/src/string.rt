@@ -8,17 +8,9 @@ ghost use Rattle.type_string.specs.Parts.{said_parsed};
 
 use crate::Kind;
 use common::refusal::Fault;
-use type_name::Skip;
 
 // The line of Reversed.
 const REVERSED: u8 = 24;
-
-// What a type string says.
-#[derive(Clone, Copy)]
-pub enum Parsed {
-    Known(Kind),
-    Refused(Fault),
-}
 
 // Whether the string ends at at; under a Reversed, with the parenthesis that closes that.
 fn is_tail(s: &[u8], at: usize, under: u8) -> bool
@@ -37,39 +29,33 @@ fn is_tail(s: &[u8], at: usize, under: u8) -> bool
 }
 
 // The type of a line, where nothing else follows.
-fn typed(s: &[u8], at: usize, under: u8, line: u8) -> Parsed
+fn typed(s: &[u8], at: usize, under: u8, line: u8) -> Result<Kind, Fault>
     ensures { said_parsed result ≡ typed under line (rest s.now at) }
 {
     if is_tail(s, at, under) {
-        return Parsed::Known(Kind {
+        return Ok(Kind {
             line,
             reversed: under,
         });
     }
-    Parsed::Refused(Fault::NotCarried)
+    Err(Fault::NotCarried)
 }
 
 // The type of a line that is no Reversed, under a Reversed (1) or not (0). Of the 16 parentheses that may be open at once, its own and that
 // of the Reversed are.
-fn plain(s: &[u8], at: usize, under: u8, line: u8) -> Parsed
+fn plain(s: &[u8], at: usize, under: u8, line: u8) -> Result<Kind, Fault>
     requires { under ≤ 15 }
     ensures { said_parsed result ≡ plain under line (rest s.now at) }
 {
     if type_table::takes_parameters(line) {
         if s.len() <= at {
-            return Parsed::Refused(Fault::NotCarried);
+            return Err(Fault::NotCarried);
         }
         if s[at] != b'(' {
-            return Parsed::Refused(Fault::NotCarried);
+            return Err(Fault::NotCarried);
         }
-        match type_name::inside(s, at + 1, 15 - under) {
-            Skip::Behind(next) => {
-                return typed(s, next, under, line);
-            }
-            Skip::Faulty(fault) => {
-                return Parsed::Refused(fault);
-            }
-        }
+        let next = type_name::inside(s, at + 1, 15 - under)?;
+        return typed(s, next, under, line);
     }
     typed(s, at, under, line)
 }
@@ -85,46 +71,46 @@ fn is_allowed(line: u8, column: bool) -> bool
 }
 
 // What a Reversed holds, from at on.
-fn held(s: &[u8], at: usize, column: bool) -> Parsed
+fn held(s: &[u8], at: usize, column: bool) -> Result<Kind, Fault>
     requires { at ≤ length s.now }
     ensures { said_parsed result ≡ held column (rest s.now at) }
 {
     let name = type_name::name_at(s, at);
     let line = name.line;
     if line == 0 {
-        return Parsed::Refused(Fault::NotCarried);
+        return Err(Fault::NotCarried);
     }
     if is_allowed(line, column) {
         if line == REVERSED {
-            return Parsed::Refused(Fault::NotCarried);
+            return Err(Fault::NotCarried);
         }
         return plain(s, name.next, 1, line);
     }
-    Parsed::Refused(Fault::NotCarried)
+    Err(Fault::NotCarried)
 }
 
 // The type that a whole type string says; column where it is that of a static or regular column.
 // Internal: for the crates above.
-pub fn parse(s: &[u8], column: bool) -> Parsed
+pub fn parse(s: &[u8], column: bool) -> Result<Kind, Fault>
     ensures { said_parsed result ≡ type_of column s.now }
 {
     let name = type_name::name_at(s, 0);
     let line = name.line;
     let next = name.next;
     if line == 0 {
-        return Parsed::Refused(Fault::NotCarried);
+        return Err(Fault::NotCarried);
     }
     if is_allowed(line, column) {
         if line != REVERSED {
             return plain(s, next, 0, line);
         }
         if s.len() <= next {
-            return Parsed::Refused(Fault::NotCarried);
+            return Err(Fault::NotCarried);
         }
         if s[next] != b'(' {
-            return Parsed::Refused(Fault::NotCarried);
+            return Err(Fault::NotCarried);
         }
         return held(s, next + 1, column);
     }
-    Parsed::Refused(Fault::NotCarried)
+    Err(Fault::NotCarried)
 }

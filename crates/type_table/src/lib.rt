@@ -156,12 +156,10 @@ fn has_name(line: u8, name: &[u8]) -> bool
 pub fn find(name: &[u8]) -> u8
     ensures { result ≡ line_in 1 table name.now }
 {
-    let mut line: u8 = 1;
-    while line <= 34 {
+    for line in 1..35 {
         if has_name(line, name) {
             return line;
         }
-        line += 1;
     }
     0
 }

@@ -7,12 +7,12 @@ use native.Mathlib.Omega.{arith}
 use borrow.Author.Tests.{lt-ltb, le-ltb}
 use lib.Dec.{ltb}
 use lib.ListN.{length}
+use Rattle.std.proofs.Common.{Result, Ok, Err, Continue, Break}
+use Rattle.std.specs.Result.{result_from_control_flow}
 use Rattle.common.specs.Choose.{pick}
-use Rattle.common.specs.Got.{Got, got, bad, on, within, said_num}
-use Rattle.common.specs.Refusals.{Outcome, taken, refused}
+use Rattle.common.specs.Got.{Got, got, bad, on, within, Reading, said}
+use Rattle.common.specs.Refusals.{Outcome, taken, refused, refusal_at, outcome}
 use Rattle.common.specs.Store.{splice}
-use Rattle.common.specs.declared.number.Num.{Num}
-use Rattle.common.specs.declared.number.Num.TheVariants.{Number, Refused as num-refused}
 use Rattle.common.specs.declared.refusal.Fault.{Fault}
 use Rattle.common.specs.declared.refusal.Fault.TheVariants.{OverLimit, OutOfRange, NoRoom}
 use Rattle.common.specs.declared.refusal.Refusal.{Refusal}
@@ -20,29 +20,23 @@ use Rattle.common.specs.declared.refusal.Slice.{Slice}
 use Rattle.common.specs.declared.refusal.Slice.TheVariants.{Data, Schema, Records, Bytes, Output, Bases as bases-slice}
 use Rattle.common.specs.declared.times.Bases.{Bases}
 use Rattle.common.proofs.Choose.{pick_yes, pick_no}
-use Rattle.common.proofs.Said.{num_got}
-use Rattle.schema_check.specs.Records.{schema_of, anywhere, said_checked}
+use Rattle.common.proofs.Said.{tried, failed}
+use Rattle.schema_check.specs.Records.{schema_of, anywhere}
 use Rattle.schema_check.specs.declared.records.Counts.{Counts}
-use Rattle.schema_check.specs.declared.records.Checked.{Checked}
-use Rattle.schema_check.specs.declared.records.Checked.TheVariants.{Counted, Refused as Checked-Refused}
 use Rattle.call_check.specs.Tables.{Table, bad_bases, after, table_at}
 use Rattle.call_check.proofs.Schemas.{table_taken}
 use Rattle.data_contents.specs.Contents.{Widths, widths_of, Contents}
-use Rattle.list_count.proofs.Follows.{num_bad}
 use Rattle.write_form.specs.Whole.{contents_bytes}
 use Rattle.write_accept.specs.Entries.{taken_at}
 use Rattle.write_accept.specs.Writes.{desk_at, written_as, fitting, write_of}
 use Rattle.write_accept.proofs.Answers.{Desk, desk_taken}
 use Rattle.write_measure.specs.Measured.{contents_measured}
 use Rattle.write_store.specs.Parts.{contents_written, Fitting}
-use Rattle.write_call.specs.Written.{length_of, fitted, kept, said_written, Writes}
-use Rattle.write_call.specs.declared.writes.Written.{Written}
-use Rattle.write_call.specs.declared.writes.Written.TheVariants.{Length, Refused}
+use Rattle.write_call.specs.Written.{length_of, fitted, kept, Writes}
 
--- ---- what is tested first
--- behind the limits
-pub desk_rest : (c : List ℕ) (b : Bases) (s bytes : List ℕ) (room : ℕ) (r : Checked) → length c ≤ 1073741824 → length s ≤ 1073741824 → length bytes ≤ 1073741824 → room ≤ 1073741824
-    → said_checked r ≡ table_at c b s room → said_checked r ≡ desk_at c b s bytes room
+-- ---- what is tested first, behind the limits
+pub desk_rest : (c : List ℕ) (b : Bases) (s bytes : List ℕ) (room : ℕ) (r : Result Counts Refusal) → length c ≤ 1073741824 → length s ≤ 1073741824 → length bytes ≤ 1073741824 → room ≤ 1073741824
+    → outcome r ≡ table_at c b s room → outcome r ≡ desk_at c b s bytes room
 unfolding table_at desk_at pick
 desk_rest c b s bytes room r h l m n e =
     let f = le-ltb 1073741824 (length c) h in
@@ -50,26 +44,6 @@ desk_rest c b s bytes room r h l m n e =
     let i = le-ltb 1073741824 (length bytes) m in
     let j = le-ltb 1073741824 room n in
     rw (f, g, i, j) (rw (f, g, j) at e)
-
--- one over its limit
-module _ (c : List ℕ) (b : Bases) (s bytes : List ℕ) (room : ℕ) (r : Checked) where
-  pub desk_schema : 1073741824 < length c → said_checked r ≡ refused OverLimit Schema 0 → said_checked r ≡ desk_at c b s bytes room
-  unfolding desk_at pick
-  desk_schema h e = rw (lt-ltb 1073741824 (length c) h) e
-
-  pub desk_records : length c ≤ 1073741824 → 1073741824 < length s → said_checked r ≡ refused OverLimit Records 0 → said_checked r ≡ desk_at c b s bytes room
-  unfolding desk_at pick
-  desk_records h l e = rw (le-ltb 1073741824 (length c) h, lt-ltb 1073741824 (length s) l) e
-
-  pub desk_bytes : length c ≤ 1073741824 → length s ≤ 1073741824 → 1073741824 < length bytes → said_checked r ≡ refused OverLimit Bytes 0 → said_checked r ≡ desk_at c b s bytes room
-  unfolding desk_at pick
-  desk_bytes h l m e = rw (le-ltb 1073741824 (length c) h, le-ltb 1073741824 (length s) l, lt-ltb 1073741824 (length bytes) m) e
-
-  pub desk_output : length c ≤ 1073741824 → length s ≤ 1073741824 → length bytes ≤ 1073741824 → 1073741824 < room → said_checked r ≡ refused OverLimit Output 0 → said_checked r ≡ desk_at c b s bytes room
-  unfolding desk_at pick
-  desk_output h l m n e = rw (le-ltb 1073741824 (length c) h, le-ltb 1073741824 (length s) l, le-ltb 1073741824 (length bytes) m, lt-ltb 1073741824 room n) e
-
-pub ruleset desks = (desk_rest, desk_schema, desk_records, desk_bytes, desk_output)
 
 never : {A C : Type 0} {f : Fault} {z : Slice} {p : ℕ} {a : A} → refused f z p ≡ taken a → C
 never e = let z : ◌≡◌ {A = ℕ} 0 1 = cc in absurd (omega arith)
@@ -91,28 +65,22 @@ as_table c b s bytes room k e = go (ltb 1073741824 (length c)) (ltb 1073741824 (
 data_of : (t : Widths) (b : Bases) (bytes : List ℕ) (x : Got (List Contents)) → Outcome (List ℕ)
 data_of t b bytes x = within Records (on x (λ ps n. got (contents_bytes b t bytes ps) n))
 
-measured_got : (t : Widths) (b : Bases) (bytes : List ℕ) (x : Got (List Contents)) (v n : ℕ) → contents_measured b t bytes x ≡ got v n → said_written (Length v) ≡ length_of (data_of t b bytes x)
-unfolding contents_measured said_written length_of within on data_of
-measured_got t b bytes (got ps m) v n e = let f : length (contents_bytes b t bytes ps) ≡ v = cc in ap taken (sym f)
-measured_got t b bytes (bad f p) v n e = let z : ◌≡◌ {A = ℕ} 0 1 = cc in absurd (omega arith)
+within_measured : (t : Widths) (b : Bases) (bytes : List ℕ) (x : Got (List Contents)) → within Records (contents_measured b t bytes x) ≡ length_of (data_of t b bytes x)
+unfolding contents_measured length_of within on data_of
+within_measured t b bytes (got ps n) = refl
+within_measured t b bytes (bad f p) = refl
 
-measured_bad : (t : Widths) (b : Bases) (bytes : List ℕ) (x : Got (List Contents)) (f : Fault) (p : ℕ) → contents_measured b t bytes x ≡ bad f p
-    → said_written (Refused (record { fault = f; slice = Records; place = p })) ≡ length_of (data_of t b bytes x)
-unfolding contents_measured said_written length_of within on data_of
-measured_bad t b bytes (got ps m) f p e = let z : ◌≡◌ {A = ℕ} 0 1 = cc in absurd (omega arith)
-measured_bad t b bytes (bad g q) f p e =
-    let h : g ≡ f = cc in
-    let i : q ≡ p = cc in
-    rw (h, i) refl
-
-module _ (t : Widths) (b : Bases) (bytes s : List ℕ) (q : Num) (e : said_num q ≡ contents_measured b t bytes (taken_at t b bytes s 0 (length s))) where
-  pub measured_length : (v n : ℕ) → q ≡ Number v n → said_written (Length v) ≡ length_of (written_as t b s bytes)
+module _ (t : Widths) (b : Bases) (bytes s : List ℕ) (w : Result ℕ Refusal) (q : Reading ℕ) (g : outcome w ≡ within Records (said q))
+    (e : said q ≡ contents_measured b t bytes (taken_at t b bytes s 0 (length s))) where
+  measured : outcome w ≡ length_of (written_as t b s bytes)
   unfolding written_as data_of
-  measured_length v n f = measured_got t b bytes (taken_at t b bytes s 0 (length s)) v n (num_got q _ v n e f)
+  measured = g ∙ ap (within Records) e ∙ within_measured t b bytes _
 
-  pub measured_refused : (f : Fault) (p : ℕ) → q ≡ num-refused f p → said_written (Refused (record { fault = f; slice = Records; place = p })) ≡ length_of (written_as t b s bytes)
-  unfolding written_as data_of
-  measured_refused f p g = measured_bad t b bytes (taken_at t b bytes s 0 (length s)) f p (num_bad q _ f p e g)
+  pub measured_length : (y : _) (v : ℕ) → w ≡ result_from_control_flow y → y ≡ Continue v → outcome (Ok v) ≡ length_of (written_as t b s bytes)
+  measured_length y v f h = rw (← tried w y v f h) measured
+
+  pub measured_refused : (y : _) (z : _) → w ≡ result_from_control_flow y → y ≡ Break z → outcome (Err z.0) ≡ length_of (written_as t b s bytes)
+  measured_refused y z f h = rw (← failed w y z f h) measured
 
 pub ruleset measuring = (measured_length, measured_refused, refl)
 
@@ -123,8 +91,8 @@ record Of (x : Outcome (List ℕ)) (n : ℕ) : Type 0 where
   is : x ≡ taken «data»
   long : length «data» ≡ n
 
-of_length : (x : Outcome (List ℕ)) (n : ℕ) → said_written (Length n) ≡ length_of x → Of x n
-unfolding said_written length_of
+of_length : (x : Outcome (List ℕ)) (n : ℕ) → outcome (Ok n) ≡ length_of x → Of x n
+unfolding outcome length_of
 of_length (taken w) n e = let f : n ≡ length w = cc in record { «data» = w; is = refl; long = sym f }
 of_length (refused f z p) n e = let q : ◌≡◌ {A = ℕ} 0 1 = cc in absurd (omega arith)
 
@@ -136,8 +104,8 @@ fitted_whole : (x : Outcome (List ℕ)) (n room : ℕ) (h : Of x n) → n ≤ ro
 unfolding fitted after fitting
 fitted_whole x n room h l = rw (h.is, h.long) (sym (pick_no _ _ _ _ (le-ltb room n l) refl))
 
-fitted_refused : (x : Outcome (List ℕ)) (room : ℕ) (r : Refusal) → said_written (Refused r) ≡ length_of x → fitted x room ≡ refused r.fault r.slice r.place
-unfolding fitted after said_written length_of
+fitted_refused : (x : Outcome (List ℕ)) (room : ℕ) (r : Refusal) → outcome (Err r) ≡ length_of x → fitted x room ≡ refused r.fault r.slice r.place
+unfolding fitted after outcome length_of
 fitted_refused (taken w) room r e = let q : ◌≡◌ {A = ℕ} 0 1 = cc in absurd (omega arith)
 fitted_refused (refused f z p) room r e =
     let g : r.fault ≡ f = cc in
@@ -156,8 +124,8 @@ unfolding within on data_of contents_written
 taken_bytes t b bytes (got ps n) w e = cc
 taken_bytes t b bytes (bad f p) w e = never e
 
-module _ (t : Widths) (b : Bases) (s bytes : List ℕ) (r : Written) (e : said_written r ≡ length_of (written_as t b s bytes)) where
-  module _ (n : ℕ) (f : r ≡ Length n) where
+module _ (t : Widths) (b : Bases) (s bytes : List ℕ) (r : Result ℕ Refusal) (e : outcome r ≡ length_of (written_as t b s bytes)) where
+  module _ (n : ℕ) (f : r ≡ Ok n) where
     that : Of (written_as t b s bytes) n
     that = of_length (written_as t b s bytes) n (rw f at e)
 
@@ -165,28 +133,28 @@ module _ (t : Widths) (b : Bases) (s bytes : List ℕ) (r : Written) (e : said_w
     unfolding data_of written_as
     as_data = that.is
 
-    pub writes_full : (d : List ℕ) → length d < n → Writes (fitted (written_as t b s bytes) (length d)) d d (Refused (record { fault = NoRoom; slice = Output; place = n }))
-    unfolding said_written length_of kept
-    writes_full d l = let g = fitted_full (written_as t b s bytes) n (length d) that l in record { answer = rw g refl; buffer = rw g refl }
+    pub writes_full : (d : List ℕ) (y : Refusal) → y ≡ refusal_at NoRoom Output n → length d < n → Writes (fitted (written_as t b s bytes) (length d)) d d (Err y)
+    unfolding outcome length_of kept
+    writes_full d y h l = let g = fitted_full (written_as t b s bytes) n (length d) that l in record { answer = rw (g, h) refl; buffer = rw g refl }
 
     pub writes_fits : (d : List ℕ) → n ≤ length d → length d ≤ 1073741824 → Fitting (taken_at t b bytes s 0 (length s)) (contents_written b t bytes (taken_at t b bytes s 0 (length s))) d 0
     writes_fits d l m = taken_data t b bytes (taken_at t b bytes s 0 (length s)) that.«data» d as_data (omega (arith, that.long)) m
 
-    pub writes_whole : (d d' : List ℕ) → n ≤ length d → d' ≡ splice d 0 (contents_written b t bytes (taken_at t b bytes s 0 (length s))) → Writes (fitted (written_as t b s bytes) (length d)) d d' (Length n)
-    unfolding said_written length_of kept
+    pub writes_whole : (d d' : List ℕ) → n ≤ length d → d' ≡ splice d 0 (contents_written b t bytes (taken_at t b bytes s 0 (length s))) → Writes (fitted (written_as t b s bytes) (length d)) d d' (Ok n)
+    unfolding outcome length_of kept
     writes_whole d d' l g =
         let h = fitted_whole (written_as t b s bytes) n (length d) that l in
         record { answer = rw h (ap taken (sym that.long)); buffer = rw h (g ∙ ap (splice d 0) (taken_bytes t b bytes (taken_at t b bytes s 0 (length s)) that.«data» as_data)) }
 
-  pub writes_refused : (d : List ℕ) (q : Refusal) → r ≡ Refused q → Writes (fitted (written_as t b s bytes) (length d)) d d (Refused q)
-  unfolding said_written length_of kept
+  pub writes_refused : (d : List ℕ) (q : Refusal) → r ≡ Err q → Writes (fitted (written_as t b s bytes) (length d)) d d (Err q)
+  unfolding outcome length_of kept
   writes_refused d q f = let g = fitted_refused (written_as t b s bytes) (length d) q (rw f at e) in record { answer = rw g refl; buffer = rw g refl }
 
 -- ---- behind what is tested first
-module _ (c : List ℕ) (b : Bases) (s bytes : List ℕ) (room : ℕ) (r : Checked) (e : said_checked r ≡ desk_at c b s bytes room) where
-  module _ (k : Counts) (f : r ≡ Counted k) where
+module _ (c : List ℕ) (b : Bases) (s bytes : List ℕ) (room : ℕ) (r : Result Counts Refusal) (e : outcome r ≡ desk_at c b s bytes room) where
+  module _ (k : Counts) (f : r ≡ Ok k) where
     desk_is : desk_at c b s bytes room ≡ taken k
-    unfolding said_checked
+    unfolding outcome
     desk_is = sym e ∙ rw f refl
 
     desk : Desk c b s bytes room k
@@ -204,12 +172,12 @@ module _ (c : List ℕ) (b : Bases) (s bytes : List ℕ) (room : ℕ) (r : Check
     pub writes_output : room ≤ 1073741824
     writes_output = desk.output
 
-    pub writes_in : (d d' : List ℕ) (q : Written) → Writes (fitted (written_as (widths_of c k) b s bytes) room) d d' q → Writes (write_of c b s bytes room) d d' q
+    pub writes_in : (d d' : List ℕ) (q : Result ℕ Refusal) → Writes (fitted (written_as (widths_of c k) b s bytes) room) d d' q → Writes (write_of c b s bytes room) d d' q
     unfolding write_of after fitted
     writes_in d d' q g = rw desk_is g
 
-  pub writes_not : (q : Refusal) → r ≡ Checked-Refused q → (d : List ℕ) → Writes (write_of c b s bytes room) d d (Refused q)
-  unfolding write_of after said_checked said_written length_of kept
+  pub writes_not : (q : Refusal) → r ≡ Err q → (d : List ℕ) → Writes (write_of c b s bytes room) d d (Err q)
+  unfolding write_of after outcome length_of kept
   writes_not q f d =
       let g : desk_at c b s bytes room ≡ refused q.fault q.slice q.place = sym e ∙ rw f refl in
       record { answer = rw g refl; buffer = rw g refl }

@@ -1,11 +1,10 @@
 -- What a call of the writer answers, and what its buffer holds then. Assumes nothing.
-use Rattle.std.specs.Prelude.{ℕ, ◌≡◌, List, length}
-use Rattle.common.specs.Refusals.{Outcome, taken, refused, said_refusal}
+use Rattle.std.specs.Prelude.{ℕ, ◌≡◌, List, length, Result}
+use Rattle.common.specs.Refusals.{Outcome, taken, refused, outcome}
 use Rattle.common.specs.Store.{splice}
+use Rattle.common.specs.declared.refusal.Refusal.{Refusal}
 use Rattle.call_check.specs.Tables.{after}
 use Rattle.write_accept.specs.Writes.{fitting}
-use Rattle.write_call.specs.declared.writes.Written.{Written}
-use Rattle.write_call.specs.declared.writes.Written.TheVariants.{Length, Refused}
 
 -- the length of Data that is written
 unfoldable pub length_of : Outcome (List ℕ) → Outcome ℕ
@@ -21,12 +20,7 @@ unfoldable pub kept : Outcome (List ℕ) → List ℕ → List ℕ
 kept (taken w) d = splice d 0 w
 kept (refused f z p) d = d
 
--- what an answer says
-unfoldable pub said_written : Written → Outcome ℕ
-said_written (Length n) = taken n
-said_written (Refused r) = said_refusal r
-
 -- the Data x is stored in d, which becomes d', and r is its length; or r tells why not, and d' is d
-pub record Writes (x : Outcome (List ℕ)) (d d' : List ℕ) (r : Written) : Type 0 where
-  pub answer : said_written r ≡ length_of x
+pub record Writes (x : Outcome (List ℕ)) (d d' : List ℕ) (r : Result ℕ Refusal) : Type 0 where
+  pub answer : outcome r ≡ length_of x
   pub buffer : d' ≡ kept x d

@@ -6,14 +6,14 @@ use native.Mathlib.Omega.{arith}
 use borrow.Author.Tests.{eq-eqb, ne_eqb}
 use lib.Dec.{eqb}
 use lib.ListN.{length, length-append}
+use Rattle.std.proofs.Common.{Ok, Err}
 use Rattle.common.specs.Choose.{pick}
-use Rattle.common.specs.Got.{Got, got, bad, on, said_num}
+use Rattle.common.specs.Got.{Got, got, bad, on, Reading, said}
+use Rattle.common.specs.declared.reading.Bad.{Bad}
 use Rattle.common.specs.declared.refusal.Fault.{Fault}
-use Rattle.common.specs.declared.number.Num.{Num}
-use Rattle.common.specs.declared.number.Num.TheVariants.{Number, Refused as num-refused}
 use Rattle.common.specs.declared.times.Bases.{Bases}
 use Rattle.common.proofs.Choose.{pick_yes, pick_no}
-use Rattle.common.proofs.Said.{num_got}
+use Rattle.common.proofs.Said.{said_got, said_not}
 use Rattle.data_field.specs.Fields.{live}
 use Rattle.data_field.specs.declared.fields.Deletion.{Deletion}
 use Rattle.schema_check.specs.declared.records.Counts.{Counts}
@@ -28,19 +28,14 @@ use Rattle.write_accept.specs.Entries.{value_of, deletion_of, partition_of, take
 use Rattle.write_accept.proofs.Goods.{Good, record_gives}
 use Rattle.write_accept.proofs.Lying.{key_lies}
 use Rattle.write_accept.proofs.Unfolds.{entry_moves, entries_unfold, entries_move, taken_unfold}
-use Rattle.write_record.specs.Records.{said_record, wrong_in}
-use Rattle.write_record.specs.declared.ranges.Record.{Record}
-use Rattle.write_record.specs.declared.ranges.Record.TheVariants.{Found, Refused}
+use Rattle.write_record.specs.Records.{wrong_in}
 use Rattle.write_record.specs.declared.tests.Turn.TheVariants.{Partition, End}
-use Rattle.list_count.proofs.Follows.{on_got, on_bad, num_bad}
+use Rattle.list_count.proofs.Follows.{on_got, on_bad}
 use Rattle.write_number.proofs.Writing.{shown_len}
 use Rattle.write_row_parts.proofs.Laws.{header_length}
-use Rattle.write_measure.specs.Measured.{entry_measured, end_measured, entries_measured, contents_measured, said_passed}
-use Rattle.write_measure.specs.declared.entries.Passed.{Passed}
-use Rattle.write_measure.specs.declared.entries.Passed.TheVariants.{To, Refused as passed-refused}
+use Rattle.write_measure.specs.Measured.{entry_measured, end_measured, entries_measured, contents_measured}
 use Rattle.write_measure.proofs.Lengths.{partition_length}
 use Rattle.write_measure.proofs.Most.{entry_grown, entries_grown}
-use Rattle.write_measure.proofs.Rows.{found, lost}
 
 -- ---- an entry that was measured
 module _ (b : Bases) (t : Widths) (bytes : List ℕ) (opened : Deletion) (back : ℕ) where
@@ -51,17 +46,17 @@ module _ (b : Bases) (t : Widths) (bytes : List ℕ) (opened : Deletion) (back :
     pub behind : r ≡ back_behind back (length (entry_bytes b t back (show_entry bytes entry))) (show_entry bytes entry)
     pub size : n ≡ length (entry_bytes b t back (show_entry bytes entry))
 
-  entry_got : (x : Got Entry) (o : Deletion) (r n p : ℕ) → got (o, (r, n)) p ≡ entry_measured b t bytes opened back x → EntryOf x o r n p
+  entry_got : (x : Got Entry) (o : Deletion) (r n p : ℕ) → got (o, r, n) p ≡ entry_measured b t bytes opened back x → EntryOf x o r n p
   unfolding entry_measured
   entry_got (got e q) o r n p d =
       let f : q ≡ p = cc in
-      let g : ◌≡◌ {A = Deletion × (ℕ × ℕ)} (o, (r, n)) (open_behind opened e, (back_behind back (length (entry_bytes b t back (show_entry bytes e))) (show_entry bytes e), length (entry_bytes b t back (show_entry bytes e)))) = cc in
+      let g : ◌≡◌ {A = Deletion × ℕ × ℕ} (o, r, n) (open_behind opened e, back_behind back (length (entry_bytes b t back (show_entry bytes e))) (show_entry bytes e), length (entry_bytes b t back (show_entry bytes e))) = cc in
       record {
         entry = e;
         is = ap (got e) f;
-        opens = ap (λ (x : Deletion × (ℕ × ℕ)). x.0) g;
-        behind = ap (λ (x : Deletion × (ℕ × ℕ)). x.1.0) g;
-        size = ap (λ (x : Deletion × (ℕ × ℕ)). x.1.1) g;
+        opens = ap (λ (x : Deletion × ℕ × ℕ). x.0) g;
+        behind = ap (λ (x : Deletion × ℕ × ℕ). x.1) g;
+        size = ap (λ (x : Deletion × ℕ × ℕ). x.2) g;
       }
   entry_got (bad f q) o r n p d = let z : ◌≡◌ {A = ℕ} 0 1 = cc in absurd (omega arith)
 
@@ -73,14 +68,14 @@ module _ (b : Bases) (t : Widths) (bytes : List ℕ) (opened : Deletion) (back :
       let h : q ≡ p = cc in
       rw (g, h) refl
 
-  module _ (x : Got Entry) (q : Passed) (told : said_passed q ≡ entry_measured b t bytes opened back x) where
-    entry_of_lem : (o : Deletion) (r n p : ℕ) → q ≡ To o r n p → EntryOf x o r n p
-    unfolding said_passed
+  module _ (x : Got Entry) (q : Reading (Deletion × ℕ × ℕ)) (told : said q ≡ entry_measured b t bytes opened back x) where
+    entry_of_lem : (o : Deletion) (r n p : ℕ) → q ≡ Ok ((o, r, n), p) → EntryOf x o r n p
+    unfolding said
     entry_of_lem o r n p e = entry_got x o r n p (rw e at told)
 
-    entry_not : (f : Fault) (p : ℕ) → q ≡ passed-refused f p → x ≡ bad f p
-    unfolding said_passed
-    entry_not f p e = entry_bad x f p (rw e at told)
+    entry_not : (u : Bad) → q ≡ Err u → x ≡ bad u.fault u.place
+    unfolding said
+    entry_not u e = entry_bad x u.fault u.place (rw e at told)
 
 behind_most : (back n : ℕ) (v : EntryView) → back_behind back n v ≤ back + n
 unfolding back_behind
@@ -108,18 +103,18 @@ module _ (b : Bases) (s bytes : List ℕ) (opened : Deletion) (total at : ℕ) w
   unfolding taken_end
   end_as = refl
 
-  module _ (q : Record) (told : said_record q ≡ record_at b (wrong_in bytes (End opened)) s at (length s)) where
-    end_told : said_record q ≡ record_at b (bad_end opened) s at (length s)
+  module _ (q : Reading Item) (told : said q ≡ record_at b (wrong_in bytes (End opened)) s at (length s)) where
+    end_told : said q ≡ record_at b (bad_end opened) s at (length s)
     unfolding wrong_in
     end_told = told
 
-    pub end_bad : (f : Fault) (x : ℕ) → q ≡ Refused f x → said_num (num-refused f x) ≡ end_measured total (taken_end b opened s at (length s))
-    unfolding said_num end_measured
-    end_bad f x e = ap (end_measured total) (sym (end_as ∙ on_bad _ f x _ (lost q _ end_told f x e)))
+    pub end_bad : (u : Bad) → q ≡ Err u → bad u.fault u.place ≡ end_measured total (taken_end b opened s at (length s))
+    unfolding end_measured
+    end_bad u e = ap (end_measured total) (sym (end_as ∙ on_bad _ u.fault u.place _ (said_not q _ u end_told e)))
 
-    pub end_to : (y : Item) (m : ℕ) → q ≡ Found y m → said_num (Number (total + 1) m) ≡ end_measured total (taken_end b opened s at (length s))
-    unfolding said_num end_measured
-    end_to y m e = ap (end_measured total) (sym (end_as ∙ on_got _ y m _ (found q _ end_told y m e)))
+    pub end_to : (y : Item) (m : ℕ) → q ≡ Ok (y, m) → said (Ok (total + 1, m)) ≡ end_measured total (taken_end b opened s at (length s))
+    unfolding said end_measured
+    end_to y m e = ap (end_measured total) (sym (end_as ∙ on_got _ y m _ (said_got q _ y m end_told e)))
 
 pub ruleset ends = (end_bad, end_to)
 
@@ -149,35 +144,35 @@ module _ (z : Got ℕ) (c : List ℕ) (k : Counts) (b : Bases) (s bytes : List �
   pub entering_short : length bytes ≤ 1073741824
   entering_short = i.short
 
-  module _ (q : Num) (told : said_num q ≡ kind_at s p (length s)) where
-    pub entering_cut : (f : Fault) (x : ℕ) → q ≡ num-refused f x → said_num (num-refused f x) ≡ z
-    unfolding said_num entries_measured
-    entering_cut f x e =
-        ap (entries_measured b (widths_of c k) bytes back n) (sym (entries_unfold b bytes s (length s) (widths_of c k) first opened p ∙ on_bad _ f x _ (num_bad q _ f x told e))) ∙ i.rest
+  module _ (q : Reading ℕ) (told : said q ≡ kind_at s p (length s)) where
+    pub entering_cut : (u : Bad) → q ≡ Err u → bad u.fault u.place ≡ z
+    unfolding entries_measured
+    entering_cut u e =
+        ap (entries_measured b (widths_of c k) bytes back n) (sym (entries_unfold b bytes s (length s) (widths_of c k) first opened p ∙ on_bad _ u.fault u.place _ (said_not q _ u told e))) ∙ i.rest
 
-    module _ (f j : ℕ) (g : q ≡ Number f j) where
+    module _ (f j : ℕ) (g : q ≡ Ok (f, j)) where
       -- an entry and those behind it
       abbrev More : Got (List Entry)
       More = on (taken_entry (widths_of c k) b bytes first opened f s p (length s)) (λ e m. on (taken_entries (widths_of c k) b bytes 0 (open_behind opened e) s m (length s)) (λ es p. got (e ∷ es) p))
 
       here : taken_entries (widths_of c k) b bytes first opened s p (length s) ≡ pick (eqb f 7) (taken_end b opened s p (length s)) More
-      here = entries_unfold b bytes s (length s) (widths_of c k) first opened p ∙ on_got _ f j _ (num_got q _ f j told g)
+      here = entries_unfold b bytes s (length s) (widths_of c k) first opened p ∙ on_got _ f j _ (said_got q _ f j told g)
 
       closed : end_measured n (taken_end b opened s p (length s)) ≡ entries_measured b (widths_of c k) bytes back n (taken_end b opened s p (length s))
       closed = ap (end_measured n) (end_as b s bytes opened n p) ∙ end_same b (widths_of c k) bytes back n _ ∙ ap (entries_measured b (widths_of c k) bytes back n) (sym (end_as b s bytes opened n p))
 
-      pub entering_closed : (x : Num) → f ≡ 7 → said_num x ≡ end_measured n (taken_end b opened s p (length s)) → said_num x ≡ z
+      pub entering_closed : (x : Reading ℕ) → f ≡ 7 → said x ≡ end_measured n (taken_end b opened s p (length s)) → said x ≡ z
       entering_closed x e d = d ∙ closed ∙ ap (entries_measured b (widths_of c k) bytes back n) (sym (here ∙ sym (pick_yes _ _ _ _ (eq-eqb f 7 e) refl))) ∙ i.rest
 
-      module _ (h : f ≡ 7 → ⊥) (r : Passed) (passed : said_passed r ≡ entry_measured b (widths_of c k) bytes opened back (taken_entry (widths_of c k) b bytes first opened f s p (length s))) where
+      module _ (h : f ≡ 7 → ⊥) (r : Reading (Deletion × ℕ × ℕ)) (passed : said r ≡ entry_measured b (widths_of c k) bytes opened back (taken_entry (widths_of c k) b bytes first opened f s p (length s))) where
         other : taken_entries (widths_of c k) b bytes first opened s p (length s) ≡ More
         other = here ∙ sym (pick_no _ _ _ _ (ne_eqb f 7 h) refl)
 
-        pub entering_refused : (v : Fault) (x : ℕ) → r ≡ passed-refused v x → said_num (num-refused v x) ≡ z
-        unfolding said_num entries_measured
-        entering_refused v x w = ap (entries_measured b (widths_of c k) bytes back n) (sym (other ∙ on_bad _ v x _ (entry_not b (widths_of c k) bytes opened back _ r passed v x w))) ∙ i.rest
+        pub entering_refused : (u : Bad) → r ≡ Err u → bad u.fault u.place ≡ z
+        unfolding entries_measured
+        entering_refused u w = ap (entries_measured b (widths_of c k) bytes back n) (sym (other ∙ on_bad _ u.fault u.place _ (entry_not b (widths_of c k) bytes opened back _ r passed u w))) ∙ i.rest
 
-        module _ (o : Deletion) (u v m : ℕ) (w : r ≡ To o u v m) where
+        module _ (o : Deletion) (u v m : ℕ) (w : r ≡ Ok ((o, u, v), m)) where
           it : EntryOf b (widths_of c k) bytes opened back (taken_entry (widths_of c k) b bytes first opened f s p (length s)) o u v m
           it = entry_of_lem b (widths_of c k) bytes opened back _ r passed o u v m w
 
@@ -274,14 +269,14 @@ module _ (z : Got ℕ) (c : List ℕ) (k : Counts) (b : Bases) (s bytes : List �
   pub passing_short : length bytes ≤ 1073741824
   passing_short = i.short
 
-  pub passing_end : p ≡ length s → said_num (Number n p) ≡ z
-  unfolding said_num
+  pub passing_end : p ≡ length s → said (Ok (n, p)) ≡ z
+  unfolding said
   passing_end e =
       sym (measure_last b (widths_of c k) bytes n p)
       ∙ ap (Measure b (widths_of c k) bytes n) (sym (taken_unfold b bytes s (length s) (widths_of c k) p i.within ∙ sym (pick_yes _ _ _ _ (eq-eqb p (length s) e) refl)))
       ∙ i.rest
 
-  module _ (h : p ≡ length s → ⊥) (r : Record) (told : said_record r ≡ record_at baseless (wrong_in bytes Partition) s p (length s)) where
+  module _ (h : p ≡ length s → ⊥) (r : Reading Item) (told : said r ≡ record_at baseless (wrong_in bytes Partition) s p (length s)) where
     -- a partition and those behind it
     abbrev Next : Contents → ℕ → Got (List Contents)
     Next x m = on (taken_at (widths_of c k) b bytes s m (length s)) (λ ps q. got (x ∷ ps) q)
@@ -289,7 +284,7 @@ module _ (z : Got ℕ) (c : List ℕ) (k : Counts) (b : Bases) (s bytes : List �
     first : taken_at (widths_of c k) b bytes s p (length s) ≡ on (taken_partition (widths_of c k) b bytes s p (length s)) Next
     first = taken_unfold b bytes s (length s) (widths_of c k) p i.within ∙ sym (pick_no _ _ _ _ (ne_eqb p (length s) h) refl)
 
-    record_told : said_record r ≡ record_at baseless (bad_partition bytes) s p (length s)
+    record_told : said r ≡ record_at baseless (bad_partition bytes) s p (length s)
     unfolding wrong_in
     record_told = told
 
@@ -300,16 +295,16 @@ module _ (z : Got ℕ) (c : List ℕ) (k : Counts) (b : Bases) (s bytes : List �
     unfolding taken_partition
     partition_as = refl
 
-    refused_by : (y : Fault) (x : ℕ) → taken_partition (widths_of c k) b bytes s p (length s) ≡ bad y x → said_num (num-refused y x) ≡ z
-    unfolding said_num Measure
+    refused_by : (y : Fault) (x : ℕ) → taken_partition (widths_of c k) b bytes s p (length s) ≡ bad y x → bad y x ≡ z
+    unfolding Measure
     refused_by y x d = ap (Measure b (widths_of c k) bytes n) (sym (first ∙ on_bad _ y x Next d)) ∙ i.rest
 
-    pub passing_bad : (y : Fault) (x : ℕ) → r ≡ Refused y x → said_num (num-refused y x) ≡ z
-    passing_bad y x w = refused_by y x (partition_as ∙ on_bad _ y x Rest (lost r _ record_told y x w))
+    pub passing_bad : (u : Bad) → r ≡ Err u → bad u.fault u.place ≡ z
+    passing_bad u w = refused_by u.fault u.place (partition_as ∙ on_bad _ u.fault u.place Rest (said_not r _ u record_told w))
 
-    module _ (y : Item) (m : ℕ) (w : r ≡ Found y m) where
+    module _ (y : Item) (m : ℕ) (w : r ≡ Ok (y, m)) where
       got_as : record_at baseless (bad_partition bytes) s p (length s) ≡ got y m
-      got_as = found r _ record_told y m w
+      got_as = said_got r _ y m record_told w
 
       good : Good baseless (bad_partition bytes) s p (length s) y m
       good = (record_gives baseless _ s p (length s)).given y m got_as
@@ -335,14 +330,14 @@ module _ (z : Got ℕ) (c : List ℕ) (k : Counts) (b : Bases) (s bytes : List �
       head_as : length (head_bytes (show_value bytes (value_of y)) (deletion_of y)) ≡ 14 + y.length
       head_as = header_length (show_value bytes (value_of y)) (deletion_of y) ∙ ap (λ (x : ℕ). 14 + x) (shown_len bytes y.offset y.length (key_lies bytes y good.right))
 
-      module _ (x : Num) (inner : said_num x ≡ entries_measured b (widths_of c k) bytes (14 + y.length) (n + (14 + y.length)) (taken_entries (widths_of c k) b bytes 1 live s m (length s))) where
-        pub passing_refused : (f : Fault) (q : ℕ) → x ≡ num-refused f q → said_num (num-refused f q) ≡ z
-        passing_refused f q e =
-            refused_by f q (partition_as ∙ on_got _ y m Rest got_as ∙ on_bad _ f q _ (entries_not b (widths_of c k) bytes (14 + y.length) (n + (14 + y.length)) _ f q (num_bad x _ f q inner e)))
+      module _ (x : Reading ℕ) (inner : said x ≡ entries_measured b (widths_of c k) bytes (14 + y.length) (n + (14 + y.length)) (taken_entries (widths_of c k) b bytes 1 live s m (length s))) where
+        pub passing_refused : (u : Bad) → x ≡ Err u → bad u.fault u.place ≡ z
+        passing_refused u e =
+            refused_by u.fault u.place (partition_as ∙ on_got _ y m Rest got_as ∙ on_bad _ u.fault u.place _ (entries_not b (widths_of c k) bytes (14 + y.length) (n + (14 + y.length)) _ u.fault u.place (said_not x _ u inner e)))
 
-        module _ (v e : ℕ) (f : x ≡ Number v e) where
+        module _ (v e : ℕ) (f : x ≡ Ok (v, e)) where
           its : EntriesOf b (widths_of c k) bytes (14 + y.length) (n + (14 + y.length)) (taken_entries (widths_of c k) b bytes 1 live s m (length s)) v e
-          its = entries_of_lem b (widths_of c k) bytes (14 + y.length) (n + (14 + y.length)) _ v e (num_got x _ v e inner f)
+          its = entries_of_lem b (widths_of c k) bytes (14 + y.length) (n + (14 + y.length)) _ v e (said_got x _ v e inner f)
 
           gone : (m + 64 ≤ e) × (e ≤ length s)
           gone = (entries_move b bytes s (length s) (widths_of c k) 1 live m).given its.entries e its.is

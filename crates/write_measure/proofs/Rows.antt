@@ -8,12 +8,15 @@ use native.Mathlib.Omega.{arith}
 use borrow.Author.Tests.{eq-eqb, ne_eqb}
 use lib.Dec.{eqb}
 use lib.ListN.{length}
+use Rattle.std.proofs.Common.{Ok, Err}
 use Rattle.common.specs.Choose.{pick}
-use Rattle.common.specs.Got.{Got, got, bad, on}
+use Rattle.common.specs.Got.{Got, got, bad, on, Reading, said}
+use Rattle.common.specs.declared.reading.Bad.{Bad}
 use Rattle.common.specs.declared.refusal.Fault.{Fault}
 use Rattle.common.specs.declared.refusal.Fault.TheVariants.{BadRecord}
 use Rattle.common.specs.declared.times.Bases.{Bases}
 use Rattle.common.proofs.Choose.{pick_yes, pick_no}
+use Rattle.common.proofs.Said.{said_err, said_got, said_not}
 use Rattle.data_field.specs.declared.fields.Deletion.{Deletion}
 use Rattle.data_field.specs.declared.fields.Span.{Span}
 use Rattle.data_cell.specs.declared.cells.Times.{Times}
@@ -34,20 +37,12 @@ use Rattle.write_accept.specs.Records.{record_at}
 use Rattle.write_accept.specs.Tests.{bad_row, bad_static, bad_marker}
 use Rattle.write_accept.specs.Entries.{times_of, row_of, deletions_of, marker_of, taken_cells, taken_static, taken_row, taken_marker, taken_entry}
 use Rattle.write_accept.proofs.Goods.{record_gives}
-use Rattle.write_record.specs.Records.{said_record, wrong_in}
-use Rattle.write_record.specs.declared.ranges.Record.{Record}
-use Rattle.write_record.specs.declared.ranges.Record.TheVariants.{Found, Refused}
+use Rattle.write_record.specs.Records.{wrong_in}
 use Rattle.write_record.specs.declared.tests.Turn.TheVariants.{Static, Marker}
 use Rattle.list_count.proofs.Follows.{on_got, on_bad}
 use Rattle.write_row_parts.specs.Parts.{sizes_form, header_form}
-use Rattle.write_measure_parts.specs.Lengths.{taken_clustering, clustering_measured, cells_measured, said_clustered, said_celled}
-use Rattle.write_measure_parts.specs.declared.parts.Clustered.{Clustered}
-use Rattle.write_measure_parts.specs.declared.parts.Clustered.TheVariants.{To as clustered-to, Refused as clustered-refused}
-use Rattle.write_measure_parts.specs.declared.parts.Celled.{Celled}
-use Rattle.write_measure_parts.specs.declared.parts.Celled.TheVariants.{To as celled-to, Refused as celled-refused}
-use Rattle.write_measure.specs.Measured.{body_length, sized_length, static_length, row_length, marker_length, static_behind, row_behind, entry_measured, said_passed}
-use Rattle.write_measure.specs.declared.entries.Passed.{Passed}
-use Rattle.write_measure.specs.declared.entries.Passed.TheVariants.{To, Refused as passed-refused}
+use Rattle.write_measure_parts.specs.Lengths.{taken_clustering, clustering_measured, cells_measured}
+use Rattle.write_measure.specs.Measured.{body_length, sized_length, static_length, row_length, marker_length, static_behind, row_behind, entry_measured}
 use Rattle.write_measure.proofs.Lengths.{body_most, static_length_lem, row_length_lem, marker_length_lem}
 use Rattle.write_measure.proofs.Most.{clustering_grown, cells_grown}
 
@@ -76,14 +71,14 @@ module _ (b : Bases) (row : Times) (bytes ws : List ℕ) where
       let h : q ≡ p = cc in
       rw (g, h) refl
 
-  module _ (x : Got (List (Option Cell))) (r : Celled) (told : said_celled r ≡ cells_measured b row bytes ws x) where
-    celled_of : (m n p : ℕ) → r ≡ celled-to m n p → CelledOf b row bytes ws x m n p
-    unfolding said_celled
+  module _ (x : Got (List (Option Cell))) (r : Reading (ℕ × ℕ)) (told : said r ≡ cells_measured b row bytes ws x) where
+    celled_of : (m n p : ℕ) → r ≡ Ok ((m, n), p) → CelledOf b row bytes ws x m n p
+    unfolding said
     celled_of m n p e = celled_got x m n p (rw e at told)
 
-    celled_not : (f : Fault) (p : ℕ) → r ≡ celled-refused f p → x ≡ bad f p
-    unfolding said_celled
-    celled_not f p e = celled_bad x f p (rw e at told)
+    celled_not : (u : Bad) → r ≡ Err u → x ≡ bad u.fault u.place
+    unfolding said
+    celled_not u e = celled_bad x u.fault u.place (rw e at told)
 
 -- clustering values
 record ClusteredOf (bytes ws : List ℕ) (x : Got (List Span)) (k h n p : ℕ) : Type 0 where
@@ -94,17 +89,17 @@ record ClusteredOf (bytes ws : List ℕ) (x : Got (List Span)) (k h n p : ℕ) :
   size : n ≡ length (values_bytes ws (show_values bytes values))
 
 module _ (bytes ws : List ℕ) where
-  clustered_got : (x : Got (List Span)) (k h n p : ℕ) → got (k, (h, n)) p ≡ clustering_measured bytes ws x → ClusteredOf bytes ws x k h n p
+  clustered_got : (x : Got (List Span)) (k h n p : ℕ) → got (k, h, n) p ≡ clustering_measured bytes ws x → ClusteredOf bytes ws x k h n p
   unfolding clustering_measured
   clustered_got (got vs q) k h n p e =
       let f : q ≡ p = cc in
-      let g : ◌≡◌ {A = ℕ × (ℕ × ℕ)} (k, (h, n)) (length vs, (header_of (show_values bytes vs), length (values_bytes ws (show_values bytes vs)))) = cc in
+      let g : ◌≡◌ {A = ℕ × ℕ × ℕ} (k, h, n) (length vs, header_of (show_values bytes vs), length (values_bytes ws (show_values bytes vs))) = cc in
       record {
         values = vs;
         is = ap (got vs) f;
-        count = ap (λ (x : ℕ × (ℕ × ℕ)). x.0) g;
-        header = ap (λ (x : ℕ × (ℕ × ℕ)). x.1.0) g;
-        size = ap (λ (x : ℕ × (ℕ × ℕ)). x.1.1) g;
+        count = ap (λ (x : ℕ × ℕ × ℕ). x.0) g;
+        header = ap (λ (x : ℕ × ℕ × ℕ). x.1) g;
+        size = ap (λ (x : ℕ × ℕ × ℕ). x.2) g;
       }
   clustered_got (bad f q) k h n p e = let z : ◌≡◌ {A = ℕ} 0 1 = cc in absurd (omega arith)
 
@@ -116,47 +111,37 @@ module _ (bytes ws : List ℕ) where
       let h : q ≡ p = cc in
       rw (g, h) refl
 
-  module _ (x : Got (List Span)) (r : Clustered) (told : said_clustered r ≡ clustering_measured bytes ws x) where
-    clustered_of : (k h n p : ℕ) → r ≡ clustered-to k h n p → ClusteredOf bytes ws x k h n p
-    unfolding said_clustered
+  module _ (x : Got (List Span)) (r : Reading (ℕ × ℕ × ℕ)) (told : said r ≡ clustering_measured bytes ws x) where
+    clustered_of : (k h n p : ℕ) → r ≡ Ok ((k, h, n), p) → ClusteredOf bytes ws x k h n p
+    unfolding said
     clustered_of k h n p e = clustered_got x k h n p (rw e at told)
 
-    clustered_not : (f : Fault) (p : ℕ) → r ≡ clustered-refused f p → x ≡ bad f p
-    unfolding said_clustered
-    clustered_not f p e = clustered_bad x f p (rw e at told)
-
--- ---- a record that is there, or not
-module _ (q : Record) (x : Got Item) (told : said_record q ≡ x) where
-  pub found : (y : Item) (m : ℕ) → q ≡ Found y m → x ≡ got y m
-  unfolding said_record
-  found y m e = sym told ∙ rw e refl
-
-  pub lost : (f : Fault) (p : ℕ) → q ≡ Refused f p → x ≡ bad f p
-  unfolding said_record
-  lost f p e = sym told ∙ rw e refl
+    clustered_not : (u : Bad) → r ≡ Err u → x ≡ bad u.fault u.place
+    unfolding said
+    clustered_not u e = clustered_bad x u.fault u.place (rw e at told)
 
 -- ---- an entry's answer
 module _ (b : Bases) (t : Widths) (bytes : List ℕ) (opened : Deletion) (back : ℕ) where
-  refused_is : (x : Got Entry) (f : Fault) (p : ℕ) → x ≡ bad f p → said_passed (passed-refused f p) ≡ entry_measured b t bytes opened back x
-  unfolding said_passed entry_measured
+  refused_is : (x : Got Entry) (f : Fault) (p : ℕ) → x ≡ bad f p → bad f p ≡ entry_measured b t bytes opened back x
+  unfolding entry_measured
   refused_is x f p e = rw e refl
 
-  same : (o u : Deletion) (h k m n q : ℕ) → o ≡ u → h ≡ k → m ≡ n → ◌≡◌ {A = Got (Deletion × (ℕ × ℕ))} (got (o, (h, m)) q) (got (u, (k, n)) q)
+  same : (o u : Deletion) (h k m n q : ℕ) → o ≡ u → h ≡ k → m ≡ n → ◌≡◌ {A = Got (Deletion × ℕ × ℕ)} (got (o, h, m) q) (got (u, k, n) q)
   same o u h k m n q d e f = rw (d, e, f) refl
 
   static_is : (x : Got Entry) (i : Item) (cs : List (Option Cell)) (n p : ℕ) → x ≡ got (static_entry (row_of 1 i) cs) p → n ≡ length (entry_bytes b t back (show_entry bytes (static_entry (row_of 1 i) cs)))
-      → said_passed (To opened (back + n) n p) ≡ entry_measured b t bytes opened back x
-  unfolding said_passed entry_measured back_behind
+      → said (Ok ((opened, back + n, n), p)) ≡ entry_measured b t bytes opened back x
+  unfolding said entry_measured back_behind
   static_is x i cs n p e f = rw e (same _ _ _ _ _ _ p refl (ap (λ (k : ℕ). back + k) f) f)
 
   row_is : (x : Got Entry) (i : Item) (vs : List Span) (cs : List (Option Cell)) (n p : ℕ) → x ≡ got (row_entry (row_of 0 i) vs cs) p → n ≡ length (entry_bytes b t back (show_entry bytes (row_entry (row_of 0 i) vs cs)))
-      → said_passed (To opened n n p) ≡ entry_measured b t bytes opened back x
-  unfolding said_passed entry_measured back_behind
+      → said (Ok ((opened, n, n), p)) ≡ entry_measured b t bytes opened back x
+  unfolding said entry_measured back_behind
   row_is x i vs cs n p e f = rw e (same _ _ _ _ _ _ p refl f f)
 
   marker_is : (x : Got Entry) (i : Item) (vs : List Span) (o : Deletion) (n p : ℕ) → x ≡ got (marker_entry (marker_of i vs) 0 vs) p → o ≡ open_after i.column (deletions_of i)
-      → n ≡ length (entry_bytes b t back (show_entry bytes (marker_entry (marker_of i vs) 0 vs))) → said_passed (To o n n p) ≡ entry_measured b t bytes opened back x
-  unfolding said_passed entry_measured back_behind
+      → n ≡ length (entry_bytes b t back (show_entry bytes (marker_entry (marker_of i vs) 0 vs))) → said (Ok ((o, n, n), p)) ≡ entry_measured b t bytes opened back x
+  unfolding said entry_measured back_behind
   marker_is x i vs o n p e d f = rw e (same _ _ _ _ _ _ p d f f)
 
 -- ---- sums are not too large
@@ -214,16 +199,16 @@ module _ (c : List ℕ) (k : Counts) (b : Bases) (s bytes : List ℕ) (opened : 
   abbrev SW : List ℕ
   SW = widths_at c (16 + 16 * k.clustering) k.statics
 
-  module _ (i : Item) (at : ℕ) (row : Times) (g : row ≡ times_of i) (r : Celled)
-      (told : said_celled r ≡ cells_measured b row bytes (widths_at c (16 + 16 * k.clustering) k.statics) (taken_cells b bytes 0 (widths_at c (16 + 16 * k.clustering) k.statics) s at (length s))) where
+  module _ (i : Item) (at : ℕ) (row : Times) (g : row ≡ times_of i) (r : Reading (ℕ × ℕ))
+      (told : said r ≡ cells_measured b row bytes (widths_at c (16 + 16 * k.clustering) k.statics) (taken_cells b bytes 0 (widths_at c (16 + 16 * k.clustering) k.statics) s at (length s))) where
     cells_as : static_behind (widths_of c k) b bytes i s at (length s) ≡ on (taken_cells b bytes 0 SW s at (length s)) (λ cs m. got (static_entry (row_of 1 i) cs) m)
     unfolding static_behind widths_of
     cells_as = refl
 
-    pub static_cells_bad : (f : Fault) (x : ℕ) → r ≡ celled-refused f x → said_passed (passed-refused f x) ≡ entry_measured b (widths_of c k) bytes opened back (static_behind (widths_of c k) b bytes i s at (length s))
-    static_cells_bad f x h = refused_is b (widths_of c k) bytes opened back _ f x (cells_as ∙ on_bad _ f x _ (celled_not b row bytes SW _ r told f x h))
+    pub static_cells_bad : (u : Bad) → r ≡ Err u → bad u.fault u.place ≡ entry_measured b (widths_of c k) bytes opened back (static_behind (widths_of c k) b bytes i s at (length s))
+    static_cells_bad u h = refused_is b (widths_of c k) bytes opened back _ u.fault u.place (cells_as ∙ on_bad _ u.fault u.place _ (celled_not b row bytes SW _ r told u h))
 
-    module _ (missing n p : ℕ) (h : r ≡ celled-to missing n p) where
+    module _ (missing n p : ℕ) (h : r ≡ Ok ((missing, n), p)) where
       static_of : CelledOf b row bytes SW (taken_cells b bytes 0 SW s at (length s)) missing n p
       static_of = celled_of b row bytes SW _ r told missing n p h
 
@@ -233,14 +218,14 @@ module _ (c : List ℕ) (k : Counts) (b : Bases) (s bytes : List ℕ) (opened : 
           omega (arith, u.most, u.within w, static_of.size)
 
       pub static_to : (z : ℕ) → z ≡ static_length b i missing n
-          → said_passed (To opened (back + z) z p) ≡ entry_measured b (widths_of c k) bytes opened back (static_behind (widths_of c k) b bytes i s at (length s))
+          → said (Ok ((opened, back + z, z), p)) ≡ entry_measured b (widths_of c k) bytes opened back (static_behind (widths_of c k) b bytes i s at (length s))
       unfolding widths_of static_length
       static_to z v =
           let o = static_of in
           static_is b (widths_of c k) bytes opened back _ i o.cells z p (cells_as ∙ on_got _ o.cells p _ o.is)
           (v ∙ ap (λ (x : ℕ). 2 + x) (body_sum b i 0 missing _ n _ o.missing (times_sum b row (times_of i) bytes SW o.cells n g o.size)) ∙ sym (static_length_lem b (widths_of c k) bytes back i o.cells))
 
-  module _ (first at : ℕ) (q : Record) (told : said_record q ≡ record_at b (wrong_in bytes (Static first k.statics)) s at (length s)) where
+  module _ (first at : ℕ) (q : Reading Item) (told : said q ≡ record_at b (wrong_in bytes (Static first k.statics)) s at (length s)) where
     abbrev Standing : Item → ℕ → Got Entry
     Standing i n = static_behind (widths_of c k) b bytes i s n (length s)
 
@@ -248,20 +233,20 @@ module _ (c : List ℕ) (k : Counts) (b : Bases) (s bytes : List ℕ) (opened : 
     unfolding taken_static static_behind widths_of
     static_as = rw (widths_count c (16 + 16 * k.clustering) k.statics) refl
 
-    static_told : said_record q ≡ record_at b (bad_static first k.statics) s at (length s)
+    static_told : said q ≡ record_at b (bad_static first k.statics) s at (length s)
     unfolding wrong_in
     static_told = told
 
-    pub static_bad : (f : Fault) (x : ℕ) → q ≡ Refused f x → said_passed (passed-refused f x) ≡ entry_measured b (widths_of c k) bytes opened back (taken_static (widths_of c k) b bytes first s at (length s))
-    static_bad f x e = refused_is b (widths_of c k) bytes opened back _ f x (static_as ∙ on_bad _ f x Standing (lost q _ static_told f x e))
+    pub static_bad : (u : Bad) → q ≡ Err u → bad u.fault u.place ≡ entry_measured b (widths_of c k) bytes opened back (taken_static (widths_of c k) b bytes first s at (length s))
+    static_bad u e = refused_is b (widths_of c k) bytes opened back _ u.fault u.place (static_as ∙ on_bad _ u.fault u.place Standing (said_not q _ u static_told e))
 
-    module _ (y : Item) (m : ℕ) (e : q ≡ Found y m) where
+    module _ (y : Item) (m : ℕ) (e : q ≡ Ok (y, m)) where
       pub static_within : m ≤ length s
-      static_within = ((record_gives b _ s at (length s)).given y m (found q _ static_told y m e)).within
+      static_within = ((record_gives b _ s at (length s)).given y m (said_got q _ y m static_told e)).within
 
-      pub static_rest : (r : Passed) → said_passed r ≡ entry_measured b (widths_of c k) bytes opened back (static_behind (widths_of c k) b bytes y s m (length s))
-          → said_passed r ≡ entry_measured b (widths_of c k) bytes opened back (taken_static (widths_of c k) b bytes first s at (length s))
-      static_rest r h = h ∙ ap (entry_measured b (widths_of c k) bytes opened back) (sym (static_as ∙ on_got _ y m Standing (found q _ static_told y m e)))
+      pub static_rest : (r : Reading (Deletion × ℕ × ℕ)) → said r ≡ entry_measured b (widths_of c k) bytes opened back (static_behind (widths_of c k) b bytes y s m (length s))
+          → said r ≡ entry_measured b (widths_of c k) bytes opened back (taken_static (widths_of c k) b bytes first s at (length s))
+      static_rest r h = h ∙ ap (entry_measured b (widths_of c k) bytes opened back) (sym (static_as ∙ on_got _ y m Standing (said_got q _ y m static_told e)))
 
 -- ---- a row
 module _ (c : List ℕ) (k : Counts) (b : Bases) (s bytes : List ℕ) (opened : Deletion) (back : ℕ) where
@@ -271,7 +256,7 @@ module _ (c : List ℕ) (k : Counts) (b : Bases) (s bytes : List ℕ) (opened : 
   abbrev RW : List ℕ
   RW = widths_at c (16 + 16 * (k.clustering + k.statics)) k.regulars
 
-  module _ (i : Item) (at : ℕ) (q : Clustered) (told : said_clustered q ≡ clustering_measured bytes (widths_at c 16 k.clustering) (taken_clustering true b bytes 0 (widths_at c 16 k.clustering) s at (length s))) where
+  module _ (i : Item) (at : ℕ) (q : Reading (ℕ × ℕ × ℕ)) (told : said q ≡ clustering_measured bytes (widths_at c 16 k.clustering) (taken_clustering true b bytes 0 (widths_at c 16 k.clustering) s at (length s))) where
     abbrev RMore : List Span → ℕ → Got Entry
     RMore vs n = on (taken_cells b bytes 0 RW s n (length s)) (λ cs m. got (row_entry (row_of 0 i) vs cs) m)
 
@@ -279,10 +264,10 @@ module _ (c : List ℕ) (k : Counts) (b : Bases) (s bytes : List ℕ) (opened : 
     unfolding row_behind widths_of taken_clustering
     rest_as = refl
 
-    pub rest_bad : (f : Fault) (x : ℕ) → q ≡ clustered-refused f x → said_passed (passed-refused f x) ≡ entry_measured b (widths_of c k) bytes opened back (row_behind (widths_of c k) b bytes i s at (length s))
-    rest_bad f x e = refused_is b (widths_of c k) bytes opened back _ f x (rest_as ∙ on_bad _ f x RMore (clustered_not bytes RV _ q told f x e))
+    pub rest_bad : (u : Bad) → q ≡ Err u → bad u.fault u.place ≡ entry_measured b (widths_of c k) bytes opened back (row_behind (widths_of c k) b bytes i s at (length s))
+    rest_bad u e = refused_is b (widths_of c k) bytes opened back _ u.fault u.place (rest_as ∙ on_bad _ u.fault u.place RMore (clustered_not bytes RV _ q told u e))
 
-    module _ (count header values m : ℕ) (e : q ≡ clustered-to count header values m) where
+    module _ (count header values m : ℕ) (e : q ≡ Ok ((count, header, values), m)) where
       rest_of : ClusteredOf bytes RV (taken_clustering true b bytes 0 RV s at (length s)) count header values m
       rest_of = clustered_of bytes RV _ q told count header values m e
 
@@ -295,12 +280,12 @@ module _ (c : List ℕ) (k : Counts) (b : Bases) (s bytes : List ℕ) (opened : 
             let u = (clustering_grown b bytes s (length s) a true 0 RV at).given rest_of.values m rest_of.is in
             omega (arith, u.most, u.within l, rest_of.size)
 
-      module _ (row : Times) (g : row ≡ times_of i) (r : Celled) (cells : said_celled r ≡ cells_measured b row bytes (widths_at c (16 + 16 * (k.clustering + k.statics)) k.regulars) (taken_cells b bytes 0 (widths_at c (16 + 16 * (k.clustering + k.statics)) k.regulars) s m (length s))) where
-        pub rest_cells_bad : (f : Fault) (x : ℕ) → r ≡ celled-refused f x → said_passed (passed-refused f x) ≡ entry_measured b (widths_of c k) bytes opened back (row_behind (widths_of c k) b bytes i s at (length s))
-        rest_cells_bad f x h =
-            refused_is b (widths_of c k) bytes opened back _ f x (rest_as ∙ on_got _ rest_of.values m RMore rest_of.is ∙ on_bad _ f x _ (celled_not b row bytes RW _ r cells f x h))
+      module _ (row : Times) (g : row ≡ times_of i) (r : Reading (ℕ × ℕ)) (cells : said r ≡ cells_measured b row bytes (widths_at c (16 + 16 * (k.clustering + k.statics)) k.regulars) (taken_cells b bytes 0 (widths_at c (16 + 16 * (k.clustering + k.statics)) k.regulars) s m (length s))) where
+        pub rest_cells_bad : (u : Bad) → r ≡ Err u → bad u.fault u.place ≡ entry_measured b (widths_of c k) bytes opened back (row_behind (widths_of c k) b bytes i s at (length s))
+        rest_cells_bad u h =
+            refused_is b (widths_of c k) bytes opened back _ u.fault u.place (rest_as ∙ on_got _ rest_of.values m RMore rest_of.is ∙ on_bad _ u.fault u.place _ (celled_not b row bytes RW _ r cells u h))
 
-        module _ (missing n p : ℕ) (h : r ≡ celled-to missing n p) where
+        module _ (missing n p : ℕ) (h : r ≡ Ok ((missing, n), p)) where
           rest_celled : CelledOf b row bytes RW (taken_cells b bytes 0 RW s m (length s)) missing n p
           rest_celled = celled_of b row bytes RW _ r cells missing n p h
 
@@ -310,7 +295,7 @@ module _ (c : List ℕ) (k : Counts) (b : Bases) (s bytes : List ℕ) (opened : 
               omega (arith, u.most, u.within (rest_within a w), rest_celled.size)
 
           pub rest_to : (z : ℕ) → z ≡ row_length b i back count header values missing n
-              → said_passed (To opened z z p) ≡ entry_measured b (widths_of c k) bytes opened back (row_behind (widths_of c k) b bytes i s at (length s))
+              → said (Ok ((opened, z, z), p)) ≡ entry_measured b (widths_of c k) bytes opened back (row_behind (widths_of c k) b bytes i s at (length s))
           unfolding widths_of row_length
           rest_to z v =
               let o = rest_of in
@@ -322,7 +307,7 @@ module _ (c : List ℕ) (k : Counts) (b : Bases) (s bytes : List ℕ) (opened : 
               o.size
               (body_sum b i back missing _ n _ d.missing (times_sum b row (times_of i) bytes RW d.cells n g d.size)))
 
-  module _ (at : ℕ) (q : Record) (told : said_record q ≡ record_at b (bad_row 3) s at (length s)) where
+  module _ (at : ℕ) (q : Reading Item) (told : said q ≡ record_at b (bad_row 3) s at (length s)) where
     abbrev Behind : Item → ℕ → Got Entry
     Behind i n = row_behind (widths_of c k) b bytes i s n (length s)
 
@@ -330,19 +315,19 @@ module _ (c : List ℕ) (k : Counts) (b : Bases) (s bytes : List ℕ) (opened : 
     unfolding taken_row row_behind
     row_as = refl
 
-    pub row_bad : (f : Fault) (x : ℕ) → q ≡ Refused f x → said_passed (passed-refused f x) ≡ entry_measured b (widths_of c k) bytes opened back (taken_row (widths_of c k) b bytes s at (length s))
-    row_bad f x e = refused_is b (widths_of c k) bytes opened back _ f x (row_as ∙ on_bad _ f x Behind (lost q _ told f x e))
+    pub row_bad : (u : Bad) → q ≡ Err u → bad u.fault u.place ≡ entry_measured b (widths_of c k) bytes opened back (taken_row (widths_of c k) b bytes s at (length s))
+    row_bad u e = refused_is b (widths_of c k) bytes opened back _ u.fault u.place (row_as ∙ on_bad _ u.fault u.place Behind (said_not q _ u told e))
 
-    module _ (y : Item) (m : ℕ) (e : q ≡ Found y m) where
+    module _ (y : Item) (m : ℕ) (e : q ≡ Ok (y, m)) where
       pub row_within : m ≤ length s
-      row_within = ((record_gives b _ s at (length s)).given y m (found q _ told y m e)).within
+      row_within = ((record_gives b _ s at (length s)).given y m (said_got q _ y m told e)).within
 
-      pub row_to : (r : Passed) → said_passed r ≡ entry_measured b (widths_of c k) bytes opened back (row_behind (widths_of c k) b bytes y s m (length s))
-          → said_passed r ≡ entry_measured b (widths_of c k) bytes opened back (taken_row (widths_of c k) b bytes s at (length s))
-      row_to r h = h ∙ ap (entry_measured b (widths_of c k) bytes opened back) (sym (row_as ∙ on_got _ y m Behind (found q _ told y m e)))
+      pub row_to : (r : Reading (Deletion × ℕ × ℕ)) → said r ≡ entry_measured b (widths_of c k) bytes opened back (row_behind (widths_of c k) b bytes y s m (length s))
+          → said r ≡ entry_measured b (widths_of c k) bytes opened back (taken_row (widths_of c k) b bytes s at (length s))
+      row_to r h = h ∙ ap (entry_measured b (widths_of c k) bytes opened back) (sym (row_as ∙ on_got _ y m Behind (said_got q _ y m told e)))
 
   -- ---- a marker
-  module _ (at : ℕ) (q : Record) (told : said_record q ≡ record_at b (wrong_in bytes (Marker opened)) s at (length s)) where
+  module _ (at : ℕ) (q : Reading Item) (told : said q ≡ record_at b (wrong_in bytes (Marker opened)) s at (length s)) where
     abbrev MMore : Item → ℕ → Got Entry
     MMore i n = on (taken_clustering false b bytes 0 RV s n (length s)) (λ vs m. got (marker_entry (marker_of i vs) 0 vs) m)
 
@@ -350,23 +335,23 @@ module _ (c : List ℕ) (k : Counts) (b : Bases) (s bytes : List ℕ) (opened : 
     unfolding taken_marker widths_of taken_clustering
     marker_as = refl
 
-    marker_told : said_record q ≡ record_at b (bad_marker opened) s at (length s)
+    marker_told : said q ≡ record_at b (bad_marker opened) s at (length s)
     unfolding wrong_in
     marker_told = told
 
-    pub marker_bad : (f : Fault) (x : ℕ) → q ≡ Refused f x → said_passed (passed-refused f x) ≡ entry_measured b (widths_of c k) bytes opened back (taken_marker (widths_of c k) b bytes opened s at (length s))
-    marker_bad f x e = refused_is b (widths_of c k) bytes opened back _ f x (marker_as ∙ on_bad _ f x MMore (lost q _ marker_told f x e))
+    pub marker_bad : (u : Bad) → q ≡ Err u → bad u.fault u.place ≡ entry_measured b (widths_of c k) bytes opened back (taken_marker (widths_of c k) b bytes opened s at (length s))
+    marker_bad u e = refused_is b (widths_of c k) bytes opened back _ u.fault u.place (marker_as ∙ on_bad _ u.fault u.place MMore (said_not q _ u marker_told e))
 
-    module _ (y : Item) (m : ℕ) (e : q ≡ Found y m) where
+    module _ (y : Item) (m : ℕ) (e : q ≡ Ok (y, m)) where
       marker_got : record_at b (bad_marker opened) s at (length s) ≡ got y m
-      marker_got = found q _ marker_told y m e
+      marker_got = said_got q _ y m marker_told e
 
-      module _ (r : Clustered) (vals : said_clustered r ≡ clustering_measured bytes (widths_at c 16 k.clustering) (taken_clustering false b bytes 0 (widths_at c 16 k.clustering) s m (length s))) where
-        pub marker_values_bad : (f : Fault) (x : ℕ) → r ≡ clustered-refused f x → said_passed (passed-refused f x) ≡ entry_measured b (widths_of c k) bytes opened back (taken_marker (widths_of c k) b bytes opened s at (length s))
-        marker_values_bad f x h =
-            refused_is b (widths_of c k) bytes opened back _ f x (marker_as ∙ on_got _ y m MMore marker_got ∙ on_bad _ f x _ (clustered_not bytes RV _ r vals f x h))
+      module _ (r : Reading (ℕ × ℕ × ℕ)) (vals : said r ≡ clustering_measured bytes (widths_at c 16 k.clustering) (taken_clustering false b bytes 0 (widths_at c 16 k.clustering) s m (length s))) where
+        pub marker_values_bad : (u : Bad) → r ≡ Err u → bad u.fault u.place ≡ entry_measured b (widths_of c k) bytes opened back (taken_marker (widths_of c k) b bytes opened s at (length s))
+        marker_values_bad u h =
+            refused_is b (widths_of c k) bytes opened back _ u.fault u.place (marker_as ∙ on_got _ y m MMore marker_got ∙ on_bad _ u.fault u.place _ (clustered_not bytes RV _ r vals u h))
 
-        module _ (count header values p : ℕ) (h : r ≡ clustered-to count header values p) where
+        module _ (count header values p : ℕ) (h : r ≡ Ok ((count, header, values), p)) where
           marker_of_lem : ClusteredOf bytes RV (taken_clustering false b bytes 0 RV s m (length s)) count header values p
           marker_of_lem = clustered_of bytes RV _ r vals count header values p h
 
@@ -377,7 +362,7 @@ module _ (c : List ℕ) (k : Counts) (b : Bases) (s bytes : List ℕ) (opened : 
               omega (arith, u.most, u.within w.within, marker_of_lem.size)
 
           pub marker_to : (d : Deletions) (o : Deletion) (z : ℕ) → d ≡ deletions_of y → o ≡ open_after y.column d → z ≡ marker_length b y.column d back count header values
-              → said_passed (To o z z p) ≡ entry_measured b (widths_of c k) bytes opened back (taken_marker (widths_of c k) b bytes opened s at (length s))
+              → said (Ok ((o, z, z), p)) ≡ entry_measured b (widths_of c k) bytes opened back (taken_marker (widths_of c k) b bytes opened s at (length s))
           unfolding widths_of marker_length
           marker_to d o z g j v =
               let a = marker_of_lem in
@@ -393,24 +378,24 @@ pub ruleset rows = (back_fits, static_bad, static_within, static_cells_bad, stat
 
 -- ---- which entry it is
 module _ (t : Widths) (b : Bases) (s bytes : List ℕ) (first : ℕ) (opened : Deletion) (back kind at : ℕ) where
-  abbrev A : Got Entry → Got (Deletion × (ℕ × ℕ))
+  abbrev A : Got Entry → Got (Deletion × ℕ × ℕ)
   A = entry_measured b t bytes opened back
 
   entry_as : taken_entry t b bytes first opened kind s at (length s) ≡ pick (eqb kind 2) (taken_static t b bytes first s at (length s)) (pick (eqb kind 3) (taken_row t b bytes s at (length s)) (pick (eqb kind 4) (taken_marker t b bytes opened s at (length s)) (bad BadRecord at)))
   unfolding taken_entry
   entry_as = refl
 
-  module _ (r : Passed) where
-    pub kind_static : kind ≡ 2 → said_passed r ≡ entry_measured b t bytes opened back (taken_static t b bytes first s at (length s)) → said_passed r ≡ entry_measured b t bytes opened back (taken_entry t b bytes first opened kind s at (length s))
+  module _ (r : Reading (Deletion × ℕ × ℕ)) where
+    pub kind_static : kind ≡ 2 → said r ≡ entry_measured b t bytes opened back (taken_static t b bytes first s at (length s)) → said r ≡ entry_measured b t bytes opened back (taken_entry t b bytes first opened kind s at (length s))
     kind_static e h = h ∙ ap A (sym (entry_as ∙ sym (pick_yes _ _ _ _ (eq-eqb kind 2 e) refl)))
 
-    pub kind_row : (kind ≡ 2 → ⊥) → kind ≡ 3 → said_passed r ≡ entry_measured b t bytes opened back (taken_row t b bytes s at (length s)) → said_passed r ≡ entry_measured b t bytes opened back (taken_entry t b bytes first opened kind s at (length s))
+    pub kind_row : (kind ≡ 2 → ⊥) → kind ≡ 3 → said r ≡ entry_measured b t bytes opened back (taken_row t b bytes s at (length s)) → said r ≡ entry_measured b t bytes opened back (taken_entry t b bytes first opened kind s at (length s))
     kind_row d e h = h ∙ ap A (sym (entry_as ∙ sym (pick_no _ _ _ _ (ne_eqb kind 2 d) (pick_yes _ _ _ _ (eq-eqb kind 3 e) refl))))
 
-    pub kind_marker : (kind ≡ 2 → ⊥) → (kind ≡ 3 → ⊥) → kind ≡ 4 → said_passed r ≡ entry_measured b t bytes opened back (taken_marker t b bytes opened s at (length s)) → said_passed r ≡ entry_measured b t bytes opened back (taken_entry t b bytes first opened kind s at (length s))
+    pub kind_marker : (kind ≡ 2 → ⊥) → (kind ≡ 3 → ⊥) → kind ≡ 4 → said r ≡ entry_measured b t bytes opened back (taken_marker t b bytes opened s at (length s)) → said r ≡ entry_measured b t bytes opened back (taken_entry t b bytes first opened kind s at (length s))
     kind_marker d f e h = h ∙ ap A (sym (entry_as ∙ sym (pick_no _ _ _ _ (ne_eqb kind 2 d) (pick_no _ _ _ _ (ne_eqb kind 3 f) (pick_yes _ _ _ _ (eq-eqb kind 4 e) refl)))))
 
-  pub kind_none : (kind ≡ 2 → ⊥) → (kind ≡ 3 → ⊥) → (kind ≡ 4 → ⊥) → said_passed (passed-refused BadRecord at) ≡ entry_measured b t bytes opened back (taken_entry t b bytes first opened kind s at (length s))
+  pub kind_none : (kind ≡ 2 → ⊥) → (kind ≡ 3 → ⊥) → (kind ≡ 4 → ⊥) → bad BadRecord at ≡ entry_measured b t bytes opened back (taken_entry t b bytes first opened kind s at (length s))
   kind_none d f e = refused_is b t bytes opened back _ BadRecord at (entry_as ∙ sym (pick_no _ _ _ _ (ne_eqb kind 2 d) (pick_no _ _ _ _ (ne_eqb kind 3 f) (pick_no _ _ _ _ (ne_eqb kind 4 e) refl))))
 
-pub ruleset kinds = (kind_static, kind_row, kind_marker, kind_none)
+pub ruleset kinds = (kind_static, kind_row, kind_marker, kind_none, said_err)

@@ -11,8 +11,6 @@ use Rattle.write_form.specs.Markers.{deletions_bytes}
 use Rattle.write_form.specs.Whole.{entry_bytes, back_behind, entries_bytes, contents_bytes}
 use Rattle.write_accept.specs.Entries.{deletion_of, times_of, row_of, taken_values, taken_cells}
 use Rattle.write_row_parts.specs.Parts.{head_form, sizes_form, header_form}
-use Rattle.write_measure.specs.declared.entries.Passed.{Passed}
-use Rattle.write_measure.specs.declared.entries.Passed.TheVariants.{To, Refused}
 
 -- ---- entries
 -- what follows a row's sizes, where its cells have n bytes
@@ -46,9 +44,9 @@ row_behind t b bytes i =
     ret (row_entry (row_of 0 i) vs cs)))
 
 -- behind an entry: the deletion of the open range, and what the next one's previous size counts; and how long the entry is
-unfoldable pub entry_measured : Bases → Widths → List ℕ → Deletion → ℕ → Got Entry → Got (Deletion × (ℕ × ℕ))
+unfoldable pub entry_measured : Bases → Widths → List ℕ → Deletion → ℕ → Got Entry → Got (Deletion × ℕ × ℕ)
 entry_measured b t bytes opened back (got e n) =
-    got (open_behind opened e, (back_behind back (length (entry_bytes b t back (show_entry bytes e))) (show_entry bytes e), length (entry_bytes b t back (show_entry bytes e)))) n
+    got (open_behind opened e, back_behind back (length (entry_bytes b t back (show_entry bytes e))) (show_entry bytes e), length (entry_bytes b t back (show_entry bytes e))) n
 entry_measured b t bytes opened back (bad f p) = bad f p
 
 -- the end byte, with total bytes before it
@@ -65,8 +63,3 @@ entries_measured b t bytes back total (bad f p) = bad f p
 unfoldable pub contents_measured : Bases → Widths → List ℕ → Got (List Contents) → Got ℕ
 contents_measured b t bytes (got ps n) = got (length (contents_bytes b t bytes ps)) n
 contents_measured b t bytes (bad f p) = bad f p
-
--- ---- what the code's answer says
-unfoldable pub said_passed : Passed → Got (Deletion × (ℕ × ℕ))
-said_passed (To o back n p) = got (o, (back, n)) p
-said_passed (Refused f p) = bad f p

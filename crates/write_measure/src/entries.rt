@@ -1,10 +1,12 @@
 // One entry of a partition, checked and measured.
+ghost use Rattle.common.specs.Got.{said};
 ghost use Rattle.std.specs.Prelude.{◌≡◌, ◌≤◌, length};
 ghost use Rattle.call_check.specs.Tables.{Table};
 ghost use Rattle.data_contents.specs.Contents.{widths_of};
 ghost use Rattle.write_accept.specs.Entries.{taken_static, taken_row, taken_marker, taken_entry};
-ghost use Rattle.write_measure.specs.Measured.{sized_length, body_length, static_length, row_length, marker_length, static_behind, row_behind, entry_measured, said_passed};
+ghost use Rattle.write_measure.specs.Measured.{sized_length, body_length, static_length, row_length, marker_length, static_behind, row_behind, entry_measured};
 
+use common::reading::Reading;
 use common::refusal::Fault;
 use common::times::Bases;
 use data_field::fields::Deletion;
@@ -13,29 +15,11 @@ use data_marker::markers;
 use data_marker::markers::Deletions;
 use schema_check::records::Counts;
 use write_measure_parts::parts;
-use write_measure_parts::parts::{Celled, Clustered};
-use write_record::ranges::Record;
 use write_record::records;
 use write_record::tests::Turn;
 use write_record_parts::convert;
 use write_row_parts::{heads, markers as bounds};
 use write_sizes::{prefixes, sizes};
-
-#[derive(Clone, Copy)]
-pub enum Passed {
-    // The deletion of the range that is open behind an entry, what the next one's previous size counts, how long the entry is, and the
-    // next place.
-    To {
-        opened: Deletion,
-        back: u64,
-        size: u64,
-        next: usize,
-    },
-    Refused {
-        fault: Fault,
-        place: usize,
-    },
-}
 
 // How long n bytes are with the sizes before them.
 fn sized_len(previous: u64, n: u64) -> u64
@@ -109,29 +93,18 @@ fn measure_static_rest(
     back: u64,
     i: Item,
     at: usize,
-) -> Passed
+) -> Reading<(Deletion, u64, u64)>
     requires { Table (length c.now) k × (length s.now ≤ 1073741824) × (length bytes.now ≤ 1073741824) × (back ≤ 36028797018963968) × (at ≤ length s.now) }
-    ensures { said_passed result ≡ entry_measured b (widths_of c.now k) bytes.now opened back (static_behind (widths_of c.now k) b bytes.now i s.now at (length s.now)) }
+    ensures { said result ≡ entry_measured b (widths_of c.now k) bytes.now opened back (static_behind (widths_of c.now k) b bytes.now i s.now at (length s.now)) }
 {
     let times = convert::times_of(i);
     let base = (16 + 16 * k.clustering) as usize;
-    match parts::measure_cells(c, base, k.statics, b, times, s, bytes, at) {
-        Celled::To {
-            missing,
-            size: cells,
-            next,
-        } => {
-            let size = static_len(b, i, missing, cells);
-            let behind = back + size;
-            Passed::To {
-                opened,
-                back: behind,
-                size,
-                next,
-            }
-        }
-        Celled::Refused { fault, place } => Passed::Refused { fault, place },
-    }
+    let ((missing, cells), next) = parts::measure_cells(
+        c, base, k.statics, b, times, s, bytes, at,
+    )?;
+    let size = static_len(b, i, missing, cells);
+    let behind = back + size;
+    Ok(((opened, behind, size), next))
 }
 
 // A static row; `first` is 1 right behind the partition's record, else 0.
@@ -145,17 +118,13 @@ fn measure_static(
     opened: Deletion,
     back: u64,
     at: usize,
-) -> Passed
+) -> Reading<(Deletion, u64, u64)>
     requires { Table (length c.now) k × (length s.now ≤ 1073741824) × (length bytes.now ≤ 1073741824) × (back ≤ 36028797018963968) }
-    ensures { said_passed result ≡ entry_measured b (widths_of c.now k) bytes.now opened back (taken_static (widths_of c.now k) b bytes.now first s.now at (length s.now)) }
+    ensures { said result ≡ entry_measured b (widths_of c.now k) bytes.now opened back (taken_static (widths_of c.now k) b bytes.now first s.now at (length s.now)) }
 {
     let statics = k.statics;
-    match records::read_record(s, at, b, bytes, Turn::Static { first, statics }) {
-        Record::Found { item, next } => {
-            measure_static_rest(c, k, b, s, bytes, opened, back, item, next)
-        }
-        Record::Refused { fault, place } => Passed::Refused { fault, place },
-    }
+    let (item, next) = records::read_record(s, at, b, bytes, Turn::Static { first, statics })?;
+    measure_static_rest(c, k, b, s, bytes, opened, back, item, next)
 }
 
 // A row's values and cells, behind its record, which says i.
@@ -169,38 +138,26 @@ fn measure_row_rest(
     back: u64,
     i: Item,
     at: usize,
-) -> Passed
+) -> Reading<(Deletion, u64, u64)>
     requires { Table (length c.now) k × (length s.now ≤ 1073741824) × (length bytes.now ≤ 1073741824) × (at ≤ length s.now) }
-    ensures { said_passed result ≡ entry_measured b (widths_of c.now k) bytes.now opened back (row_behind (widths_of c.now k) b bytes.now i s.now at (length s.now)) }
+    ensures { said result ≡ entry_measured b (widths_of c.now k) bytes.now opened back (row_behind (widths_of c.now k) b bytes.now i s.now at (length s.now)) }
 {
-    match parts::measure_clustering(c, k.clustering, b, s, bytes, at, true) {
-        Clustered::To {
-            count,
-            header,
-            size: values,
-            next,
-        } => {
-            let times = convert::times_of(i);
-            let base = (16 + 16 * (k.clustering + k.statics)) as usize;
-            match parts::measure_cells(c, base, k.regulars, b, times, s, bytes, next) {
-                Celled::To {
-                    missing,
-                    size: cells,
-                    next: after,
-                } => {
-                    let size = row_len(b, i, back, count, header, values, missing, cells);
-                    Passed::To {
-                        opened,
-                        back: size,
-                        size,
-                        next: after,
-                    }
-                }
-                Celled::Refused { fault, place } => Passed::Refused { fault, place },
-            }
-        }
-        Clustered::Refused { fault, place } => Passed::Refused { fault, place },
-    }
+    let ((count, header, values), next) = parts::measure_clustering(
+        c,
+        k.clustering,
+        b,
+        s,
+        bytes,
+        at,
+        true,
+    )?;
+    let times = convert::times_of(i);
+    let base = (16 + 16 * (k.clustering + k.statics)) as usize;
+    let ((missing, cells), after) = parts::measure_cells(
+        c, base, k.regulars, b, times, s, bytes, next,
+    )?;
+    let size = row_len(b, i, back, count, header, values, missing, cells);
+    Ok(((opened, size, size), after))
 }
 
 // A row.
@@ -213,16 +170,12 @@ fn measure_row(
     opened: Deletion,
     back: u64,
     at: usize,
-) -> Passed
+) -> Reading<(Deletion, u64, u64)>
     requires { Table (length c.now) k × (length s.now ≤ 1073741824) × (length bytes.now ≤ 1073741824) }
-    ensures { said_passed result ≡ entry_measured b (widths_of c.now k) bytes.now opened back (taken_row (widths_of c.now k) b bytes.now s.now at (length s.now)) }
+    ensures { said result ≡ entry_measured b (widths_of c.now k) bytes.now opened back (taken_row (widths_of c.now k) b bytes.now s.now at (length s.now)) }
 {
-    match records::read_row(s, at, b) {
-        Record::Found { item, next } => {
-            measure_row_rest(c, k, b, s, bytes, opened, back, item, next)
-        }
-        Record::Refused { fault, place } => Passed::Refused { fault, place },
-    }
+    let (item, next) = records::read_row(s, at, b)?;
+    measure_row_rest(c, k, b, s, bytes, opened, back, item, next)
 }
 
 // A marker, where the deletion of the open range is `opened`.
@@ -235,34 +188,24 @@ fn measure_marker(
     opened: Deletion,
     back: u64,
     at: usize,
-) -> Passed
+) -> Reading<(Deletion, u64, u64)>
     requires { Table (length c.now) k × (length s.now ≤ 1073741824) × (length bytes.now ≤ 1073741824) }
-    ensures { said_passed result ≡ entry_measured b (widths_of c.now k) bytes.now opened back (taken_marker (widths_of c.now k) b bytes.now opened s.now at (length s.now)) }
+    ensures { said result ≡ entry_measured b (widths_of c.now k) bytes.now opened back (taken_marker (widths_of c.now k) b bytes.now opened s.now at (length s.now)) }
 {
-    match records::read_record(s, at, b, bytes, Turn::Marker { opened }) {
-        Record::Found { item, next } => {
-            match parts::measure_clustering(c, k.clustering, b, s, bytes, next, false) {
-                Clustered::To {
-                    count,
-                    header,
-                    size: values,
-                    next: after,
-                } => {
-                    let deletions = convert::deletions_of(item);
-                    let kind = item.column;
-                    let size = marker_len(b, kind, deletions, back, count, header, values);
-                    Passed::To {
-                        opened: markers::open_after(kind, deletions),
-                        back: size,
-                        size,
-                        next: after,
-                    }
-                }
-                Clustered::Refused { fault, place } => Passed::Refused { fault, place },
-            }
-        }
-        Record::Refused { fault, place } => Passed::Refused { fault, place },
-    }
+    let (item, next) = records::read_record(s, at, b, bytes, Turn::Marker { opened })?;
+    let ((count, header, values), after) = parts::measure_clustering(
+        c,
+        k.clustering,
+        b,
+        s,
+        bytes,
+        next,
+        false,
+    )?;
+    let deletions = convert::deletions_of(item);
+    let kind = item.column;
+    let size = marker_len(b, kind, deletions, back, count, header, values);
+    Ok(((markers::open_after(kind, deletions), size, size), after))
 }
 
 // The entry at at, whose record is of the kind.
@@ -277,9 +220,9 @@ pub(crate) fn measure_entry(
     back: u64,
     kind: u64,
     at: usize,
-) -> Passed
+) -> Reading<(Deletion, u64, u64)>
     requires { Table (length c.now) k × (length s.now ≤ 1073741824) × (length bytes.now ≤ 1073741824) × (back ≤ 36028797018963968) }
-    ensures { said_passed result ≡ entry_measured b (widths_of c.now k) bytes.now opened back (taken_entry (widths_of c.now k) b bytes.now first opened kind s.now at (length s.now)) }
+    ensures { said result ≡ entry_measured b (widths_of c.now k) bytes.now opened back (taken_entry (widths_of c.now k) b bytes.now first opened kind s.now at (length s.now)) }
 {
     if kind == 2 {
         return measure_static(c, k, b, s, bytes, first, opened, back, at);
@@ -290,8 +233,5 @@ pub(crate) fn measure_entry(
     if kind == 4 {
         return measure_marker(c, k, b, s, bytes, opened, back, at);
     }
-    Passed::Refused {
-        fault: Fault::BadRecord,
-        place: at,
-    }
+    Err(Fault::BadRecord.at(at))
 }

@@ -8,10 +8,12 @@ use native.Mathlib.Omega.{arith}
 use native.Mathlib.Nat.{pow-suc, mul-add, mul_assoc, pow-le-pow_right}
 use lib.Dec.{eqb, eqb→eq, lit<}
 use lib.ListN.{length, get_or, length-append}
-use Rattle.common.specs.Got.{Got, got, bad, on}
-use Rattle.common.specs.declared.refusal.Fault.{Fault}
+use Rattle.std.proofs.Common.{Ok, Err}
+use Rattle.common.specs.Got.{Got, got, bad, on, Reading, said}
+use Rattle.common.specs.declared.reading.Bad.{Bad}
 use Rattle.common.specs.declared.times.Bases.{Bases}
 use Rattle.common.proofs.Finite.{below_at}
+use Rattle.common.proofs.Said.{said_got, said_not, tried, failed}
 use Rattle.data_cell.specs.declared.cells.Times.{Times}
 use Rattle.data_cell.specs.declared.cells.Cell.{Cell}
 use Rattle.data_clustering.specs.Prefixes.{widths_at}
@@ -24,15 +26,11 @@ use Rattle.write_accept.specs.Records.{record_at}
 use Rattle.write_accept.specs.Tests.{bad_cell}
 use Rattle.write_accept.specs.Entries.{cell_of, taken_cells}
 use Rattle.write_accept.proofs.Goods.{Good, record_gives}
-use Rattle.write_record.specs.Records.{said_record}
-use Rattle.write_record.specs.declared.ranges.Record.{Record}
-use Rattle.write_record.specs.declared.ranges.Record.TheVariants.{Found, Refused}
 use Rattle.write_cell.specs.Sizes.{cell_size}
 use Rattle.write_cell.proofs.Sizes.{cell_size_most}
 use Rattle.list_count.proofs.Follows.{on_got, on_bad}
 use Rattle.common.proofs.Gives.{never}
-use Rattle.write_measure_parts.specs.Lengths.{cell_column, columns_from, cells_measured, Known, said_celled}
-use Rattle.write_measure_parts.specs.declared.parts.Celled.TheVariants.{To as celled-to, Refused as celled-refused}
+use Rattle.write_measure_parts.specs.Lengths.{cell_column, columns_from, cells_measured, Known}
 use Rattle.write_measure_parts.proofs.Skips.{cell_here, cell_other, nones, cells_some, cells_skip}
 use Rattle.write_measure_parts.proofs.Sizes.{cell_short, cell_length}
 
@@ -175,12 +173,12 @@ module _ (z : Got (ℕ × ℕ)) (b : Bases) (row : Times) (bytes c s : List ℕ)
       sym (measure_last b row bytes c k (m + columns_from i k) n p) ∙ (rw f at e)
 
   module _ (j : ℕ) (told : j ≡ cell_column s p) where
-    pub celling_before : (x : ℕ) → x ≡ columns_from i k → j < i → said_celled (celled-to (m + x) n p) ≡ z
-    unfolding said_celled
+    pub celling_before : (x : ℕ) → x ≡ columns_from i k → j < i → said (Ok ((m + x, n), p)) ≡ z
+    unfolding said
     celling_before x e l = rw e (over (λ y h g d. omega (arith, told)))
 
-    pub celling_behind : (x : ℕ) → x ≡ columns_from i k → k ≤ j → said_celled (celled-to (m + x) n p) ≡ z
-    unfolding said_celled
+    pub celling_behind : (x : ℕ) → x ≡ columns_from i k → k ≤ j → said (Ok ((m + x, n), p)) ≡ z
+    unfolding said
     celling_behind x e l = rw e (over (λ y h g d. omega (arith, told)))
 
   pub celling_all : (x : ℕ) → x ≡ columns_from i k → m + x < 18446744073709551616
@@ -235,15 +233,14 @@ module _ (z : Got (ℕ × ℕ)) (b : Bases) (row : Times) (bytes c s : List ℕ)
           ap (Measure b row bytes j (m + columns_from i j) n (W ∷ Rest)) (sym (cells_some b bytes c s (length s) j (base + 16 * j) (k - j - 1) p (cell_here s p j told (omega (arith, v.few)))))
           ∙ (rw e at f)
 
-      module _ (r : Record) (found : said_record r ≡ record_at b (bad_cell bytes j (get_or c (base + 16 * j + 3) 0)) s p (length s)) where
-        pub celling_bad : (f : Fault) (x : ℕ) → r ≡ Refused f x → said_celled (celled-refused f x) ≡ z
-        unfolding said_celled said_record Measure
-        celling_bad f x e = ap (Measure b row bytes j (m + columns_from i j) n (W ∷ Rest)) (sym (on_bad _ f x More (sym found ∙ rw e refl))) ∙ here
+      module _ (r : Reading Item) (found : said r ≡ record_at b (bad_cell bytes j (get_or c (base + 16 * j + 3) 0)) s p (length s)) where
+        pub celling_bad : (y : Bad) → r ≡ Err y → bad y.fault y.place ≡ z
+        unfolding Measure
+        celling_bad y e = ap (Measure b row bytes j (m + columns_from i j) n (W ∷ Rest)) (sym (on_bad _ y.fault y.place More (said_not r _ y found e))) ∙ here
 
-        module _ (y : Item) (q : ℕ) (e : r ≡ Found y q) where
+        module _ (y : Item) (q : ℕ) (e : r ≡ Ok (y, q)) where
           got_as : record_at b (bad_cell bytes j W) s p (length s) ≡ got y q
-          unfolding said_record
-          got_as = sym found ∙ rw e refl
+          got_as = said_got r _ y q found e
 
           good : Good b (bad_cell bytes j W) s p (length s) y q
           good = (record_gives b _ s p (length s)).given y q got_as
@@ -292,8 +289,8 @@ module _ (z : Got (ℕ × ℕ)) (b : Bases) (row : Times) (bytes c s : List ℕ)
                 let a : ◌≡◌ {A = Got (ℕ × ℕ)} (bad f q) (got t.value t.place) = ap (Measure b row bytes j (m + columns_from i j) n (W ∷ Rest)) (sym (on_bad _ f q More e)) ∙ here ∙ t.is in
                 never a
 
-        found : said_record (Found (item_of s p) (p + 64)) ≡ record_at b (bad_cell bytes j (get_or c (base + 16 * j + 3) 0)) s p (length s)
-        unfolding said_record
+        found : said (Ok (item_of s p, p + 64)) ≡ record_at b (bad_cell bytes j (get_or c (base + 16 * j + 3) 0)) s p (length s)
+        unfolding said
         found = sym sure
 
         pub sizing_record : p + 64 ≤ length s
@@ -303,14 +300,14 @@ module _ (z : Got (ℕ × ℕ)) (b : Bases) (row : Times) (bytes c s : List ℕ)
         sizing_place = omega (arith, sizing_record, v.table)
 
         pub sizing_length : (x : Cell) → x ≡ cell_of (item_of s p) → x.value.len ≤ 1073741824
-        sizing_length x f = celling_length (Found (item_of s p) (p + 64)) found (item_of s p) (p + 64) refl x f
+        sizing_length x f = celling_length (Ok (item_of s p, p + 64)) found (item_of s p) (p + 64) refl x f
 
         pub sizing_less : length s - (p + 64) < length s - p
         sizing_less = omega (arith, sizing_record)
 
         pub sizing_more : (x : ℕ) (d : Cell) (w : ℕ) → x ≡ columns_from i j → d ≡ cell_of (item_of s p) → w ≡ cell_size b row (get_or c (base + 16 * j + 3) 0) d
             → Celling z b row bytes c s base k (j + 1) (p + 64) (m + x) (n + w)
-        sizing_more x d w f g e = celling_more (Found (item_of s p) (p + 64)) found (item_of s p) (p + 64) refl x d w f g e
+        sizing_more x d w f g e = celling_more (Ok (item_of s p, p + 64)) found (item_of s p) (p + 64) refl x d w f g e
 
   pub sizing_size : (x : ℕ) → x ≤ 1073741861 → n + x < 18446744073709551616
   sizing_size x f = omega (arith, v.fits, v.few, v.among)
@@ -323,6 +320,6 @@ cells_known b row bytes ws x t = record {
   is = rw t.is refl;
 }
 
-pub ruleset celling = (celling_none, celling_place, celling_few, celling_among, celling_before, celling_behind, celling_all, celling_bits, celling_cast, celling_next, celling_index, celling_base, celling_width, celling_missing, celling_bad, celling_length, celling_size, celling_less, celling_more, refl)
+pub ruleset celling = (celling_none, celling_place, celling_few, celling_among, celling_before, celling_behind, celling_all, celling_bits, celling_cast, celling_next, celling_index, celling_base, celling_width, celling_missing, celling_bad, celling_length, celling_size, celling_less, celling_more, tried, failed, refl)
 
 pub ruleset sizing = (celling_none, celling_place, celling_few, celling_among, celling_before, celling_behind, celling_all, celling_bits, celling_cast, celling_next, celling_index, celling_base, celling_width, celling_missing, sizing_record, sizing_place, sizing_length, sizing_less, sizing_more, sizing_size, cells_known, refl)

@@ -7,11 +7,13 @@ use native.Mathlib.Omega.{arith}
 use native.Mathlib.Nat.{pow-suc, mul-add, mul_assoc, pow-le-pow_right}
 use lib.Dec.{eqb, eqb→eq, lit<}
 use lib.ListN.{length, get_or, length-append}
+use Rattle.std.proofs.Common.{Ok, Err}
 use Rattle.common.specs.Choose.{pick}
-use Rattle.common.specs.Got.{Got, got, bad, on}
-use Rattle.common.specs.declared.refusal.Fault.{Fault}
+use Rattle.common.specs.Got.{Got, got, bad, on, Reading, said}
+use Rattle.common.specs.declared.reading.Bad.{Bad}
 use Rattle.common.specs.declared.times.Bases.{Bases}
 use Rattle.common.proofs.Finite.{below_at}
+use Rattle.common.proofs.Said.{said_got, said_not, tried, failed}
 use Rattle.data_field.specs.declared.fields.Span.{Span}
 use Rattle.data_clustering.specs.Prefixes.{widths_at}
 use Rattle.data_items.specs.declared.Item.{Item}
@@ -22,15 +24,11 @@ use Rattle.write_accept.specs.Records.{record_at}
 use Rattle.write_accept.specs.Tests.{bad_clustering}
 use Rattle.write_accept.specs.Entries.{value_of, taken_values, taken_prefix}
 use Rattle.write_accept.proofs.Goods.{Good, record_gives}
-use Rattle.write_record.specs.Records.{said_record}
-use Rattle.write_record.specs.declared.ranges.Record.{Record}
-use Rattle.write_record.specs.declared.ranges.Record.TheVariants.{Found, Refused}
 use Rattle.write_cell.specs.Sizes.{value_size}
 use Rattle.write_cell.proofs.Sizes.{value_size_most}
 use Rattle.list_count.proofs.Follows.{on_got, on_bad}
 use Rattle.common.proofs.Gives.{never}
-use Rattle.write_measure_parts.specs.Lengths.{taken_clustering, is_over, empty_bit, clustering_measured, Known, said_clustered}
-use Rattle.write_measure_parts.specs.declared.parts.Clustered.TheVariants.{To as clustered-to, Refused as clustered-refused}
+use Rattle.write_measure_parts.specs.Lengths.{taken_clustering, is_over, empty_bit, clustering_measured, Known}
 use Rattle.write_measure_parts.proofs.Sizes.{value_shown, value_short, value_length}
 
 -- ---- the bit of an empty value
@@ -79,11 +77,11 @@ module _ (b : Bases) (bytes s : List ℕ) (end : ℕ) where
       go false f = let z : ◌≡◌ {A = ℕ} 0 1 = cc in absurd (omega arith)
 
 -- i values before, with the bits h and n bytes
-unfoldable pub Measure : List ℕ → ℕ → ℕ → ℕ → List ℕ → Got (List Span) → Got (ℕ × (ℕ × ℕ))
-Measure bytes i h n ws (got vs q) = got (i + length vs, (h + 4 ^ i * header_of (show_values bytes vs), n + length (values_bytes ws (show_values bytes vs)))) q
+unfoldable pub Measure : List ℕ → ℕ → ℕ → ℕ → List ℕ → Got (List Span) → Got (ℕ × ℕ × ℕ)
+Measure bytes i h n ws (got vs q) = got (i + length vs, h + 4 ^ i * header_of (show_values bytes vs), n + length (values_bytes ws (show_values bytes vs))) q
 Measure bytes i h n ws (bad f p) = bad f p
 
-same : (i j h k m n q : ℕ) → i ≡ j → h ≡ k → m ≡ n → ◌≡◌ {A = Got (ℕ × (ℕ × ℕ))} (got (i, (h, m)) q) (got (j, (k, n)) q)
+same : (i j h k m n q : ℕ) → i ≡ j → h ≡ k → m ≡ n → ◌≡◌ {A = Got (ℕ × ℕ × ℕ)} (got (i, h, m) q) (got (j, k, n) q)
 same i j h k m n q e f g = rw (e, f, g) refl
 
 header_first : (p : ℕ) (t : Bool) (m : ℕ) → p * (pick t 1 0 + 4 * m) ≡ pick t p 0 + p * 4 * m
@@ -97,7 +95,7 @@ module _ (bytes : List ℕ) where
   measure_none ws (got vs q) = same _ _ _ _ _ _ q (omega arith) (omega arith) (omega arith)
   measure_none ws (bad f p) = refl
 
-  measure_last : (i h n : ℕ) (ws : List ℕ) (p : ℕ) → Measure bytes i h n ws (got [] p) ≡ got (i, (h, n)) p
+  measure_last : (i h n : ℕ) (ws : List ℕ) (p : ℕ) → Measure bytes i h n ws (got [] p) ≡ got (i, h, n) p
   unfolding Measure header_of values_bytes
   measure_last i h n [] p = same _ _ _ _ _ _ p (omega arith) (omega arith) (omega arith)
   measure_last i h n (w ∷ ws) p = same _ _ _ _ _ _ p (omega arith) (omega arith) (omega arith)
@@ -116,7 +114,7 @@ module _ (bytes : List ℕ) where
   measure_more i h n w ws y (bad f p) e = refl
 
 -- the values of the columns that are left, from column i on, whose records stand in the schema from column on; z is what measuring all gives
-pub record Valuing (z : Got (ℕ × (ℕ × ℕ))) (whole : Bool) (b : Bases) (bytes c s : List ℕ) (k i column p h n : ℕ) : Type 0 where
+pub record Valuing (z : Got (ℕ × ℕ × ℕ)) (whole : Bool) (b : Bases) (bytes c s : List ℕ) (k i column p h n : ℕ) : Type 0 where
   pub left : ℕ
   pub among : i + left ≡ k
   pub few : k ≤ 32
@@ -142,15 +140,16 @@ valuing_none whole b bytes c s k at h l m = record {
 powers : (i : ℕ) → i ≤ 32 → 4 ^ i ≤ 18446744073709551616
 powers i l = let h : 4 ^ i ≤ 4 ^ 32 = pow-le-pow_right (lit< tt) l in h
 
-module _ (z : Got (ℕ × (ℕ × ℕ))) (whole : Bool) (b : Bases) (bytes c s : List ℕ) (k i column p h n : ℕ) (v : Valuing z whole b bytes c s k i column p h n) where
-  ended : (ws : List ℕ) → taken_clustering whole b bytes i ws s p (length s) ≡ got [] p → Measure bytes i h n ws (taken_clustering whole b bytes i ws s p (length s)) ≡ got (i, (h, n)) p
+module _ (z : Got (ℕ × ℕ × ℕ)) (whole : Bool) (b : Bases) (bytes c s : List ℕ) (k i column p h n : ℕ) (v : Valuing z whole b bytes c s k i column p h n) where
+  ended : (ws : List ℕ) → taken_clustering whole b bytes i ws s p (length s) ≡ got [] p → Measure bytes i h n ws (taken_clustering whole b bytes i ws s p (length s)) ≡ got (i, h, n) p
   ended ws e = ap (Measure bytes i h n ws) e ∙ measure_last bytes i h n ws p
 
-  pub valuing_end : k ≤ i → said_clustered (clustered-to i h n p) ≡ z
-  unfolding said_clustered widths_at
+  pub valuing_end : k ≤ i → said (Ok ((k, h, n), p)) ≡ z
+  unfolding said widths_at
   valuing_end l =
       let e : v.left ≡ 0 = omega (arith, v.among) in
-      sym (ended [] (values_none b bytes s (length s) whole i p)) ∙ (rw e at v.rest)
+      let f : k ≡ i = omega (arith, v.among) in
+      rw f (sym (ended [] (values_none b bytes s (length s) whole i p)) ∙ (rw e at v.rest))
 
   module _ (l : i < k) where
     more : v.left ≡ suc (v.left - 1)
@@ -166,8 +165,8 @@ module _ (z : Got (ℕ × (ℕ × ℕ))) (whole : Bool) (b : Bases) (bytes c s :
     unfolding widths_at
     from = ap (λ (x : ℕ). Measure bytes i h n (widths_at c column x) (taken_clustering whole b bytes i (widths_at c column x) s p (length s))) (sym more) ∙ v.rest
 
-    pub valuing_over : (o : Bool) → o ≡ is_over whole s p → o ≡ true → said_clustered (clustered-to i h n p) ≡ z
-    unfolding said_clustered
+    pub valuing_over : (o : Bool) → o ≡ is_over whole s p → o ≡ true → said (Ok ((i, h, n), p)) ≡ z
+    unfolding said
     valuing_over o e f = sym (ended (W ∷ Rest) (values_stop b bytes s (length s) whole i W Rest p (sym e ∙ f))) ∙ from
 
     pub valuing_index : column + 3 < length c
@@ -176,9 +175,6 @@ module _ (z : Got (ℕ × (ℕ × ℕ))) (whole : Bool) (b : Bases) (bytes c s :
     pub valuing_bit : i < 32
     valuing_bit = omega (arith, v.few)
 
-    pub valuing_count : i + 1 < 18446744073709551616
-    valuing_count = omega (arith, v.few)
-
     module _ (m : length c < 2 ^ 64) where
       pub valuing_width : column + 3 < 18446744073709551616
       valuing_width = omega (arith, v.inside, more)
@@ -186,19 +182,15 @@ module _ (z : Got (ℕ × (ℕ × ℕ))) (whole : Bool) (b : Bases) (bytes c s :
       pub valuing_column : column + 16 < 18446744073709551616
       valuing_column = omega (arith, v.inside, more)
 
-    pub valuing_less : k - (i + 1) < k - i
-    valuing_less = omega arith
+    module _ (r : Reading Item) (told : said r ≡ record_at b (bad_clustering bytes i (get_or c (column + 3) 0)) s p (length s)) where
+      pub valuing_bad : (o : Bool) → o ≡ is_over whole s p → o ≡ false → (y : Bad) → r ≡ Err y → bad y.fault y.place ≡ z
+      unfolding Measure
+      valuing_bad o d g y e =
+          ap (Measure bytes i h n (W ∷ Rest)) (sym (values_more b bytes s (length s) whole i W Rest p (sym d ∙ g) ∙ on_bad _ y.fault y.place _ (said_not r _ y told e))) ∙ from
 
-    module _ (r : Record) (told : said_record r ≡ record_at b (bad_clustering bytes i (get_or c (column + 3) 0)) s p (length s)) where
-      pub valuing_bad : (o : Bool) → o ≡ is_over whole s p → o ≡ false → (f : Fault) (x : ℕ) → r ≡ Refused f x → said_clustered (clustered-refused f x) ≡ z
-      unfolding said_clustered said_record Measure
-      valuing_bad o d g f x e =
-          ap (Measure bytes i h n (W ∷ Rest)) (sym (values_more b bytes s (length s) whole i W Rest p (sym d ∙ g) ∙ on_bad _ f x _ (sym told ∙ rw e refl))) ∙ from
-
-      module _ (y : Item) (q : ℕ) (e : r ≡ Found y q) where
+      module _ (y : Item) (q : ℕ) (e : r ≡ Ok (y, q)) where
         got_as : record_at b (bad_clustering bytes i (get_or c (column + 3) 0)) s p (length s) ≡ got y q
-        unfolding said_record
-        got_as = sym told ∙ rw e refl
+        got_as = said_got r _ y q told e
 
         good : Good b (bad_clustering bytes i (get_or c (column + 3) 0)) s p (length s) y q
         good = (record_gives b _ s p (length s)).given y q got_as
@@ -244,12 +236,12 @@ module _ (z : Got (ℕ × (ℕ × ℕ))) (whole : Bool) (b : Bases) (bytes c s :
           go : (x : Got Item) → record_at b (bad_clustering bytes i W) s p (length s) ≡ x → x ≡ got (item_of s p) (p + 64)
           go (got y q) e = let r = (record_gives b (bad_clustering bytes i W) s p (length s)).given y q e in rw (r.is, r.next) refl
           go (bad f q) e =
-              let a : ◌≡◌ {A = Got (ℕ × (ℕ × ℕ))} (bad f q) (got t.value t.place) =
+              let a : ◌≡◌ {A = Got (ℕ × ℕ × ℕ)} (bad f q) (got t.value t.place) =
               ap (Measure bytes i h n (W ∷ Rest)) (sym (values_more b bytes s (length s) whole i W Rest p (sym d ∙ g) ∙ on_bad _ f q _ e)) ∙ from ∙ t.is in
               never a
 
-      found : said_record (Found (item_of s p) (p + 64)) ≡ record_at b (bad_clustering bytes i (get_or c (column + 3) 0)) s p (length s)
-      unfolding said_record
+      found : said (Ok (item_of s p, p + 64)) ≡ record_at b (bad_clustering bytes i (get_or c (column + 3) 0)) s p (length s)
+      unfolding said
       found = sym sure
 
       sizing_record : p + 64 ≤ length s
@@ -257,14 +249,14 @@ module _ (z : Got (ℕ × (ℕ × ℕ))) (whole : Bool) (b : Bases) (bytes c s :
 
       module _ (y : Span) (e : y ≡ value_of (item_of s p)) where
         sizing_length : y.len ≤ 1073741824
-        sizing_length = rw e (valuing_length (Found (item_of s p) (p + 64)) found (item_of s p) (p + 64) refl)
+        sizing_length = rw e (valuing_length (Ok (item_of s p, p + 64)) found (item_of s p) (p + 64) refl)
 
         sizing_header : (x : ℕ) → x ≡ empty_bit y.len i → h + x < 18446744073709551616
-        sizing_header x f = valuing_header (Found (item_of s p) (p + 64)) found (item_of s p) (p + 64) refl x (rw e at f)
+        sizing_header x f = valuing_header (Ok (item_of s p, p + 64)) found (item_of s p) (p + 64) refl x (rw e at f)
 
         sizing_more : (x w : ℕ) → x ≡ empty_bit y.len i → w ≡ value_size (get_or c (column + 3) 0) y.len
             → Valuing z whole b bytes c s k (i + 1) (column + 16) (p + 64) (h + x) (n + w)
-        sizing_more x w f u = valuing_more (Found (item_of s p) (p + 64)) found (item_of s p) (p + 64) refl o x w d g (rw e at f) (rw e at u)
+        sizing_more x w f u = valuing_more (Ok (item_of s p, p + 64)) found (item_of s p) (p + 64) refl o x w d g (rw e at f) (rw e at u)
 
     sizing_size : (x : ℕ) → x ≤ 1073741833 → n + x < 18446744073709551616
     sizing_size x f = omega (arith, v.fits, v.few)
@@ -272,12 +264,12 @@ module _ (z : Got (ℕ × (ℕ × ℕ))) (whole : Bool) (b : Bases) (bytes c s :
 values_known : (bytes ws : List ℕ) (x : Got (List Span)) → Known x → Known (clustering_measured bytes ws x)
 unfolding clustering_measured
 values_known bytes ws x t = record {
-  value = (length t.value, (header_of (show_values bytes t.value), length (values_bytes ws (show_values bytes t.value))));
+  value = (length t.value, header_of (show_values bytes t.value), length (values_bytes ws (show_values bytes t.value)));
   place = t.place;
   is = rw t.is refl;
 }
 
-pub ruleset valuing = (valuing_none, valuing_end, valuing_over, valuing_index, valuing_bit, valuing_count, valuing_width, valuing_column, valuing_less, valuing_bad, valuing_length, valuing_header, valuing_size, valuing_more, refl)
+pub ruleset valuing = (valuing_none, valuing_end, valuing_over, valuing_index, valuing_bit, valuing_width, valuing_column, valuing_bad, valuing_length, valuing_header, valuing_size, valuing_more, tried, failed, refl)
 
 -- the same under each bases with which the values are taken, as they are with some
 pub record Valued (whole : Bool) (bytes c s : List ℕ) (k at i column p h n : ℕ) : Type 0 where
@@ -291,7 +283,7 @@ pub valued_none : (whole : Bool) (b : Bases) (bytes c s : List ℕ) (k at : ℕ)
 valued_none whole b bytes c s k at h l m t = record { bases = b; known = t; each = λ d u. valuing_none whole d bytes c s k at h l m }
 
 module _ (whole : Bool) (bytes c s : List ℕ) (k at i column p h n : ℕ) (x : Valued whole bytes c s k at i column p h n) where
-  abbrev Z : Bases → Got (ℕ × (ℕ × ℕ))
+  abbrev Z : Bases → Got (ℕ × ℕ × ℕ)
   Z b = clustering_measured bytes (widths_at c 16 k) (taken_clustering whole b bytes 0 (widths_at c 16 k) s at (length s))
 
   v : Valuing (Z x.bases) whole x.bases bytes c s k i column p h n
@@ -300,11 +292,11 @@ module _ (whole : Bool) (bytes c s : List ℕ) (k at i column p h n : ℕ) (x : 
   t : Known (Z x.bases)
   t = values_known bytes (widths_at c 16 k) _ x.known
 
-  pub valued_end : (b : Bases) → Known (taken_clustering whole b bytes 0 (widths_at c 16 k) s at (length s)) → k ≤ i → said_clustered (clustered-to i h n p) ≡ Z b
+  pub valued_end : (b : Bases) → Known (taken_clustering whole b bytes 0 (widths_at c 16 k) s at (length s)) → k ≤ i → said (Ok ((k, h, n), p)) ≡ Z b
   valued_end b u l = valuing_end (Z b) whole b bytes c s k i column p h n (x.each b u) l
 
   module _ (l : i < k) where
-    pub valued_over : (b : Bases) → Known (taken_clustering whole b bytes 0 (widths_at c 16 k) s at (length s)) → (o : Bool) → o ≡ is_over whole s p → o ≡ true → said_clustered (clustered-to i h n p) ≡ Z b
+    pub valued_over : (b : Bases) → Known (taken_clustering whole b bytes 0 (widths_at c 16 k) s at (length s)) → (o : Bool) → o ≡ is_over whole s p → o ≡ true → said (Ok ((i, h, n), p)) ≡ Z b
     valued_over b u o e f = valuing_over (Z b) whole b bytes c s k i column p h n (x.each b u) l o e f
 
     pub valued_index : column + 3 < length c
@@ -313,18 +305,12 @@ module _ (whole : Bool) (bytes c s : List ℕ) (k at i column p h n : ℕ) (x : 
     pub valued_bit : i < 32
     valued_bit = valuing_bit (Z x.bases) whole x.bases bytes c s k i column p h n v l
 
-    pub valued_count : i + 1 < 18446744073709551616
-    valued_count = valuing_count (Z x.bases) whole x.bases bytes c s k i column p h n v l
-
     module _ (m : length c < 2 ^ 64) where
       pub valued_width : column + 3 < 18446744073709551616
       valued_width = valuing_width (Z x.bases) whole x.bases bytes c s k i column p h n v l m
 
       pub valued_column : column + 16 < 18446744073709551616
       valued_column = valuing_column (Z x.bases) whole x.bases bytes c s k i column p h n v l m
-
-    pub valued_less : k - (i + 1) < k - i
-    valued_less = omega arith
 
     pub valued_size : (y : ℕ) → y ≤ 1073741833 → n + y < 18446744073709551616
     valued_size y f = sizing_size (Z x.bases) whole x.bases bytes c s k i column p h n v l y f
@@ -350,4 +336,4 @@ module _ (whole : Bool) (bytes c s : List ℕ) (k at i column p h n : ℕ) (x : 
           each = λ b u. sizing_more (Z b) whole b bytes c s k i column p h n (x.each b u) l (values_known bytes (widths_at c 16 k) _ u) o d g y e a w f q;
         }
 
-pub ruleset sizing = (valued_none, valued_end, valued_over, valued_index, valued_bit, valued_count, valued_width, valued_column, valued_less, valued_size, valued_record, valued_place, valued_length, valued_header, valued_more, refl)
+pub ruleset sizing = (valued_none, valued_end, valued_over, valued_index, valued_bit, valued_width, valued_column, valued_size, valued_record, valued_place, valued_length, valued_header, valued_more, refl)

@@ -11,10 +11,6 @@ use Rattle.write_form.specs.Views.{show_values, show_cells}
 use Rattle.write_form.specs.Clusterings.{header_of, values_bytes}
 use Rattle.write_form.specs.Rows.{missing_of, cells_bytes}
 use Rattle.write_accept.specs.Entries.{taken_values, taken_prefix}
-use Rattle.write_measure_parts.specs.declared.parts.Clustered.{Clustered}
-use Rattle.write_measure_parts.specs.declared.parts.Clustered.TheVariants.{To as clustered-to, Refused as clustered-refused}
-use Rattle.write_measure_parts.specs.declared.parts.Celled.{Celled}
-use Rattle.write_measure_parts.specs.declared.parts.Celled.TheVariants.{To as celled-to, Refused as celled-refused}
 
 -- ---- clustering values
 -- those of a row, which has all, or of a marker
@@ -31,8 +27,8 @@ unfoldable pub empty_bit : ℕ → ℕ → ℕ
 empty_bit n i = pick (eqb n 0) (4 ^ i) 0
 
 -- how many there are, their header's bits, and how long they are without it
-unfoldable pub clustering_measured : List ℕ → List ℕ → Got (List Span) → Got (ℕ × (ℕ × ℕ))
-clustering_measured bytes ws (got vs n) = got (length vs, (header_of (show_values bytes vs), length (values_bytes ws (show_values bytes vs)))) n
+unfoldable pub clustering_measured : List ℕ → List ℕ → Got (List Span) → Got (ℕ × ℕ × ℕ)
+clustering_measured bytes ws (got vs n) = got (length vs, header_of (show_values bytes vs), length (values_bytes ws (show_values bytes vs))) n
 clustering_measured bytes ws (bad f p) = bad f p
 
 -- ---- cells
@@ -55,12 +51,3 @@ pub record Known {A : Type 0} (x : Got A) : Type 0 where
   pub value : A
   pub place : ℕ
   pub is : x ≡ got value place
-
--- ---- what the code's answers say
-unfoldable pub said_clustered : Clustered → Got (ℕ × (ℕ × ℕ))
-said_clustered (clustered-to k h n p) = got (k, (h, n)) p
-said_clustered (clustered-refused f p) = bad f p
-
-unfoldable pub said_celled : Celled → Got (ℕ × ℕ)
-said_celled (celled-to m n p) = got (m, n) p
-said_celled (celled-refused f p) = bad f p

@@ -1,11 +1,12 @@
 // Clustering values and cells of a record table that was checked, measured without its tests.
+ghost use Rattle.common.specs.Got.{said};
 ghost use Rattle.std.specs.Prelude.{◌≡◌, ◌+◌, ◌*◌, ◌≤◌, length};
 ghost use Rattle.data_clustering.specs.Prefixes.{widths_at};
 ghost use Rattle.write_accept.specs.Entries.{taken_cells};
-ghost use Rattle.write_measure_parts.specs.Lengths.{taken_clustering, clustering_measured, cells_measured, Known, said_clustered, said_celled};
+ghost use Rattle.write_measure_parts.specs.Lengths.{taken_clustering, clustering_measured, cells_measured, Known};
 
 use crate::parts;
-use crate::parts::{Celled, Clustered};
+use common::reading::Reading;
 use common::times::Bases;
 use data_cell::cells::Times;
 use write_cell::{cells, values};
@@ -21,23 +22,17 @@ pub fn size_clustering(
     bytes: &[u8],
     at: usize,
     whole: bool,
-) -> Clustered
+) -> Reading<(u64, u64, u64)>
     requires { (16 + 16 * k ≤ length c.now) × (k ≤ 32) × (length bytes.now ≤ 1073741824) × Known (taken_clustering whole b bytes.now 0 (widths_at c.now 16 k) s.now at (length s.now)) }
-    ensures { said_clustered result ≡ clustering_measured bytes.now (widths_at c.now 16 k) (taken_clustering whole b bytes.now 0 (widths_at c.now 16 k) s.now at (length s.now)) }
+    ensures { said result ≡ clustering_measured bytes.now (widths_at c.now 16 k) (taken_clustering whole b bytes.now 0 (widths_at c.now 16 k) s.now at (length s.now)) }
 {
-    let mut i: u64 = 0;
     let mut column: usize = 16;
     let mut p = at;
     let mut header: u64 = 0;
     let mut size: u64 = 0;
-    while i < k {
+    for i in 0..k {
         if parts::is_over(whole, s, p) {
-            return Clustered::To {
-                count: i,
-                header,
-                size,
-                next: p,
-            };
+            return Ok(((i, header, size), p));
         }
         let width = c[column + 3];
         let v = convert::span_at(s, p);
@@ -45,14 +40,8 @@ pub fn size_clustering(
         size += values::value_len(width, v.len);
         p += 64;
         column += 16;
-        i += 1;
     }
-    Clustered::To {
-        count: i,
-        header,
-        size,
-        next: p,
-    }
+    Ok(((k, header, size), p))
 }
 
 // What measure_cells answers, where the cells are known to be taken with bytes.
@@ -66,29 +55,22 @@ pub fn size_cells(
     s: &[u8],
     bytes: &[u8],
     at: usize,
-) -> Celled
+) -> Reading<(u64, u64)>
     requires { (base + 16 * k ≤ length c.now) × (k ≤ 63) × (length bytes.now ≤ 1073741824) × (at ≤ length s.now) × (length s.now ≤ 1073741824) × Known (taken_cells b bytes.now 0 (widths_at c.now base k) s.now at (length s.now)) }
-    ensures { said_celled result ≡ cells_measured b row bytes.now (widths_at c.now base k) (taken_cells b bytes.now 0 (widths_at c.now base k) s.now at (length s.now)) }
+    ensures { said result ≡ cells_measured b row bytes.now (widths_at c.now base k) (taken_cells b bytes.now 0 (widths_at c.now base k) s.now at (length s.now)) }
 {
     let mut i: u64 = 0;
     let mut p = at;
     let mut missing: u64 = 0;
     let mut size: u64 = 0;
+    // A step goes to the next column that has a cell, and not over each column.
     loop {
         let j = parts::cell_column(s, p);
         if j < i {
-            return Celled::To {
-                missing: missing + parts::columns_from(i, k),
-                size,
-                next: p,
-            };
+            return Ok(((missing + parts::columns_from(i, k), size), p));
         }
         if k <= j {
-            return Celled::To {
-                missing: missing + parts::columns_from(i, k),
-                size,
-                next: p,
-            };
+            return Ok(((missing + parts::columns_from(i, k), size), p));
         }
         let width = c[base + 16 * (j as usize) + 3];
         let cell = convert::cell_at(s, p);

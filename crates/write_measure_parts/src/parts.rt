@@ -1,45 +1,16 @@
 // Clustering values and cells, checked and measured.
+ghost use Rattle.common.specs.Got.{said};
 ghost use Rattle.std.specs.Prelude.{◌≡◌, ◌+◌, ◌*◌, ◌≤◌, ◌<◌, length, get_or};
 ghost use Rattle.data_clustering.specs.Prefixes.{widths_at};
 ghost use Rattle.write_accept.specs.Entries.{taken_cells};
-ghost use Rattle.write_measure_parts.specs.Lengths.{taken_clustering, is_over, empty_bit, clustering_measured, cell_column, columns_from, cells_measured, said_clustered, said_celled};
+ghost use Rattle.write_measure_parts.specs.Lengths.{taken_clustering, is_over, empty_bit, clustering_measured, cell_column, columns_from, cells_measured};
 
-use common::refusal::Fault;
+use common::reading::Reading;
 use common::times::Bases;
 use data_cell::cells::Times;
 use write_cell::{cells, values};
-use write_record::ranges::Record;
 use write_record::records;
 use write_record_parts::convert;
-
-#[derive(Clone, Copy)]
-pub enum Clustered {
-    // How many values there are, their header's bits, how long they are without it, and the place after them.
-    To {
-        count: u64,
-        header: u64,
-        size: u64,
-        next: usize,
-    },
-    Refused {
-        fault: Fault,
-        place: usize,
-    },
-}
-
-#[derive(Clone, Copy)]
-pub enum Celled {
-    // A bit for each missing column, how long the cells are, and the place after them.
-    To {
-        missing: u64,
-        size: u64,
-        next: usize,
-    },
-    Refused {
-        fault: Fault,
-        place: usize,
-    },
-}
 
 // The byte at at, 0 past the end.
 fn byte_or_zero(s: &[u8], at: usize) -> u8
@@ -85,42 +56,26 @@ pub fn measure_clustering(
     bytes: &[u8],
     at: usize,
     whole: bool,
-) -> Clustered
+) -> Reading<(u64, u64, u64)>
     requires { (16 + 16 * k ≤ length c.now) × (k ≤ 32) × (length bytes.now ≤ 1073741824) }
-    ensures { said_clustered result ≡ clustering_measured bytes.now (widths_at c.now 16 k) (taken_clustering whole b bytes.now 0 (widths_at c.now 16 k) s.now at (length s.now)) }
+    ensures { said result ≡ clustering_measured bytes.now (widths_at c.now 16 k) (taken_clustering whole b bytes.now 0 (widths_at c.now 16 k) s.now at (length s.now)) }
 {
-    let mut i: u64 = 0;
     let mut column: usize = 16;
     let mut p = at;
     let mut header: u64 = 0;
     let mut size: u64 = 0;
-    while i < k {
+    for i in 0..k {
         if is_over(whole, s, p) {
-            return Clustered::To {
-                count: i,
-                header,
-                size,
-                next: p,
-            };
+            return Ok(((i, header, size), p));
         }
         let width = c[column + 3];
-        match records::read_value(s, p, b, bytes, i, width) {
-            Record::Found { item, next } => {
-                header += empty_bit(item.length, i);
-                size += values::value_len(width, item.length);
-                p = next;
-                column += 16;
-                i += 1;
-            }
-            Record::Refused { fault, place } => return Clustered::Refused { fault, place },
-        }
+        let (item, next) = records::read_value(s, p, b, bytes, i, width)?;
+        header += empty_bit(item.length, i);
+        size += values::value_len(width, item.length);
+        p = next;
+        column += 16;
     }
-    Clustered::To {
-        count: i,
-        header,
-        size,
-        next: p,
-    }
+    Ok(((k, header, size), p))
 }
 
 // The column of the cell at at, 256 where no cell stands there.
@@ -154,40 +109,29 @@ pub fn measure_cells(
     s: &[u8],
     bytes: &[u8],
     at: usize,
-) -> Celled
+) -> Reading<(u64, u64)>
     requires { (base + 16 * k ≤ length c.now) × (k ≤ 63) × (length bytes.now ≤ 1073741824) × (at ≤ length s.now) × (length s.now ≤ 1073741824) }
-    ensures { said_celled result ≡ cells_measured b row bytes.now (widths_at c.now base k) (taken_cells b bytes.now 0 (widths_at c.now base k) s.now at (length s.now)) }
+    ensures { said result ≡ cells_measured b row bytes.now (widths_at c.now base k) (taken_cells b bytes.now 0 (widths_at c.now base k) s.now at (length s.now)) }
 {
     let mut i: u64 = 0;
     let mut p = at;
     let mut missing: u64 = 0;
     let mut size: u64 = 0;
+    // A step goes to the next column that has a cell, and not over each column.
     loop {
         let j = cell_column(s, p);
         if j < i {
-            return Celled::To {
-                missing: missing + columns_from(i, k),
-                size,
-                next: p,
-            };
+            return Ok(((missing + columns_from(i, k), size), p));
         }
         if k <= j {
-            return Celled::To {
-                missing: missing + columns_from(i, k),
-                size,
-                next: p,
-            };
+            return Ok(((missing + columns_from(i, k), size), p));
         }
         let width = c[base + 16 * (j as usize) + 3];
-        match records::read_cell(s, p, b, bytes, j, width) {
-            Record::Found { item, next } => {
-                missing += columns_from(i, j);
-                let cell = convert::cell_of(item);
-                size += cells::cell_len(b, row, width, cell);
-                p = next;
-                i = j + 1;
-            }
-            Record::Refused { fault, place } => return Celled::Refused { fault, place },
-        }
+        let (item, next) = records::read_cell(s, p, b, bytes, j, width)?;
+        missing += columns_from(i, j);
+        let cell = convert::cell_of(item);
+        size += cells::cell_len(b, row, width, cell);
+        p = next;
+        i = j + 1;
     }
 }

@@ -1,4 +1,5 @@
 -- A record from what the code tests, in the code's order. Assumes nothing.
+use Rattle.std.proofs.Common.{Ok}
 use mathlib.Core.Path.{◌≡◌, refl, ◌∙◌}
 use mathlib.Core.Bool.{Bool, true, false}
 use mathlib.Core.List.{List}
@@ -7,7 +8,7 @@ use native.Mathlib.Omega.{arith}
 use borrow.Author.Tests.{ltb-false, le-ltb, eqb-true}
 use lib.Dec.{ltb, eqb}
 use Rattle.common.specs.Choose.{pick, bind}
-use Rattle.common.specs.Got.{Got, got, bad, on, Reader}
+use Rattle.common.specs.Got.{Got, got, bad, on, Reader, Reading, said}
 use Rattle.common.specs.declared.refusal.Fault.TheVariants.{OutOfRange, BadRecord}
 use Rattle.common.specs.declared.times.Bases.{Bases}
 use Rattle.common.proofs.Choose.{pick_no}
@@ -15,9 +16,7 @@ use Rattle.data_items.specs.declared.Item.{Item}
 use Rattle.write_accept.specs.Fields.{item_of, stray_bytes, stray_numbers, has_second}
 use Rattle.write_accept.specs.Records.{outside, record_at, last_ranges_at, ranges_at}
 use Rattle.write_accept.specs.Tests.{unlike, bad_row, bad_clustering, bad_cell}
-use Rattle.write_record.specs.Records.{said_record, stray_record, plain_at, own_last_at, own_at, second_at}
-use Rattle.write_record.specs.declared.ranges.Record.{Record}
-use Rattle.write_record.specs.declared.ranges.Record.TheVariants.{Found, Refused}
+use Rattle.write_record.specs.Records.{stray_record, plain_at, own_last_at, own_at, second_at}
 
 -- ---- the ranges: a record's own numbers, then the second ones
 on_five : (t u v w x : Bool) (c d e f g : ℕ) (i : Item) (n : ℕ) (k : Item → ℕ → Got Item) →
@@ -121,8 +120,8 @@ stray_picks false true a p e = refl
 stray_picks false false a p e = let z : ◌≡◌ {A = ℕ} 0 1 = cc in absurd (omega arith)
 
 pub is_stray : (b : Bases) (wrong : Item → Bool) (s : List ℕ) (at end m : ℕ) (i : Item) (t : Bool) → m ≡ end - at → 64 ≤ m → i ≡ item_of s at
-    → t ≡ stray_record s at i → t ≡ true → said_record (Refused BadRecord at) ≡ record_at b wrong s at end
-unfolding said_record record_at bind stray_record
+    → t ≡ stray_record s at i → t ≡ true → bad BadRecord at ≡ record_at b wrong s at end
+unfolding record_at bind stray_record
 is_stray b wrong s at end m i t e l f g h =
     let u : stray_record s at (item_of s at) ≡ true = rw (← f, ← g) h in
     let v : 64 ≤ end - at = rw (← e) l in
@@ -140,7 +139,7 @@ plain_place true y i j at end n t e h = let z : ◌≡◌ {A = ℕ} 0 1 = cc in 
 plain_place false true i j at end n t e h = let z : ◌≡◌ {A = ℕ} 0 1 = cc in absurd (omega arith)
 plain_place false false i j at end n t e h = let f : n ≡ at = cc in omega (arith, f, ltb-false (end - at) 64 t)
 
-pub plain_fits : (s : List ℕ) (at end : ℕ) (r : Record) (i : Item) (n : ℕ) → said_record r ≡ plain_at s at end → r ≡ Found i n → end < 2 ^ 64 → n + 64 < 2 ^ 64
-unfolding said_record plain_at bind
+pub plain_fits : (s : List ℕ) (at end : ℕ) (r : Reading Item) (i : Item) (n : ℕ) → said r ≡ plain_at s at end → r ≡ Ok (i, n) → end < 2 ^ 64 → n + 64 < 2 ^ 64
+unfolding said plain_at bind
 plain_fits s at end r i n e f h =
     plain_place (ltb (end - at) 64) (stray_record s at (item_of s at)) (item_of s at) i at end n refl (rw f at e) h

@@ -1,4 +1,4 @@
--- What the code's answers say, for `search`. Assumes nothing.
+-- What the tests of a record say, for `search`. Assumes nothing.
 use mathlib.Core.Path.{◌≡◌, refl, sym, ap}
 use mathlib.Core.Bool.{Bool, true, false}
 use mathlib.Core.List.{List}
@@ -6,39 +6,14 @@ use Prim.Native.Nat.{ℕ, ◌<◌, ◌≤◌}
 use lib.Dec.{ltb}
 use borrow.Author.Tests.{eq-eqb, ne_eqb, lt-ltb, le-ltb}
 use Rattle.common.specs.Choose.{pick}
-use Rattle.common.specs.Got.{Got, got, bad, on}
-use Rattle.common.specs.declared.refusal.Fault.{Fault}
-use Rattle.common.proofs.Choose.{told}
 use Rattle.data_field.specs.declared.fields.Deletion.{Deletion}
 use Rattle.data_items.specs.declared.Item.{Item}
 use Rattle.write_accept.specs.Fields.{stray}
 use Rattle.write_accept.specs.Records.{outside}
 use Rattle.write_accept.specs.Tests.{unlike, bad_partition, bad_static, bad_marker, bad_end}
-use Rattle.write_record.specs.Records.{said_record, wrong_in}
+use Rattle.write_record.specs.Records.{wrong_in}
 use Rattle.write_record.specs.declared.tests.Turn.{Turn}
 use Rattle.write_record.specs.declared.tests.Turn.TheVariants.{Partition, Static, Marker, End}
-use Rattle.write_record.specs.declared.ranges.Record.{Record}
-use Rattle.write_record.specs.declared.ranges.Record.TheVariants.{Found, Refused}
-
--- ---- Record
-pub record_is : (i : Item) (n : ℕ) (q : Got Item) → got i n ≡ q → said_record (Found i n) ≡ q
-unfolding said_record
-record_is i n q e = e
-
-pub record_bad : (f : Fault) (p : ℕ) (q : Got Item) → bad f p ≡ q → said_record (Refused f p) ≡ q
-unfolding said_record
-record_bad f p q e = e
-
-module _ {B : Type 0} (q : Got B) (k : Item → ℕ → Got B) (r : Record) (x : Got Item) where
-  pub on_record : (i : Item) (n : ℕ) → said_record r ≡ x → r ≡ Found i n → q ≡ k i n → q ≡ on x k
-  unfolding on said_record
-  on_record i n e f g = rw (← e, f) g
-
-  pub on_record_bad : (y : Fault) (p : ℕ) → said_record r ≡ x → r ≡ Refused y p → q ≡ bad y p → q ≡ on x k
-  unfolding on said_record
-  on_record_bad y p e f g = rw (← e, f) g
-
-pub ruleset answers = (told, on_record, on_record_bad, record_is, record_bad)
 
 -- ---- unlike numbers
 pub unlike_yes : (x y : ℕ) → (x ≡ y → ⊥) → unlike x y ≡ true

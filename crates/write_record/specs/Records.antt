@@ -10,12 +10,6 @@ use Rattle.write_accept.specs.Records.{outside_timestamp, outside_local, outside
 use Rattle.write_accept.specs.Tests.{bad_partition, bad_static, bad_marker, bad_end}
 use Rattle.write_record.specs.declared.tests.Turn.{Turn}
 use Rattle.write_record.specs.declared.tests.Turn.TheVariants.{Partition, Static, Marker, End}
-use Rattle.write_record.specs.declared.ranges.Record.{Record}
-use Rattle.write_record.specs.declared.ranges.Record.TheVariants.{Found, Refused}
-
-unfoldable pub said_record : Record → Got Item
-said_record (Found i n) = got i n
-said_record (Refused f p) = bad f p
 
 -- what the record at at does not use is not zero; i are its numbers
 unfoldable pub stray_record : List ℕ → ℕ → Item → Bool

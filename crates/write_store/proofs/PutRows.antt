@@ -6,9 +6,10 @@ use mathlib.Core.Option.{Option}
 use Prim.Native.Nat.{ℕ, suc, ◌+◌, ◌-◌, ◌*◌, ◌/◌, ◌≤◌}
 use native.Mathlib.Omega.{arith}
 use lib.ListN.{length, take, length-append}
-use Rattle.common.specs.Got.{Got, got, on}
+use Rattle.std.proofs.Common.{Ok, Err}
+use Rattle.common.specs.Got.{Got, got, on, Reading, said}
 use Rattle.common.specs.Store.{Room, Puts}
-use Rattle.common.specs.declared.refusal.Fault.{Fault}
+use Rattle.common.specs.declared.reading.Bad.{Bad}
 use Rattle.common.specs.declared.times.Bases.{Bases}
 use Rattle.common.proofs.Choose.{pick_ind}
 use Rattle.data_field.specs.declared.fields.Deletion.{Deletion}
@@ -35,11 +36,7 @@ use Rattle.write_accept.specs.Fields.{item_of, has_time, has_expiry, has_local}
 use Rattle.write_accept.specs.Entries.{deletion_of, times_of, deletions_of, row_of, marker_of, taken_values, taken_prefix, taken_cells}
 use Rattle.write_accept.proofs.Unfolds.{values_move}
 use Rattle.common.proofs.Gives.{never, got_value, got_place}
-use Rattle.write_measure_parts.specs.Lengths.{taken_clustering, clustering_measured, cells_measured, Known, said_clustered, said_celled}
-use Rattle.write_measure_parts.specs.declared.parts.Clustered.{Clustered}
-use Rattle.write_measure_parts.specs.declared.parts.Clustered.TheVariants.{To as clustered-to, Refused as clustered-refused}
-use Rattle.write_measure_parts.specs.declared.parts.Celled.{Celled}
-use Rattle.write_measure_parts.specs.declared.parts.Celled.TheVariants.{To as celled-to, Refused as celled-refused}
+use Rattle.write_measure_parts.specs.Lengths.{taken_clustering, clustering_measured, cells_measured, Known}
 use Rattle.write_store_parts.specs.Again.{cells_again, prefix_again, content_again, body_again, plain_again, fixed_again, deletions_again, bound_again, ValuesThere, CellsThere, Bits}
 use Rattle.write_store.specs.Parts.{head_of, bound_of, static_again, row_again, marker_again, row_view, plain_written, entry_written, Fitting, PutsTo}
 use Rattle.write_store.specs.declared.entries.Behind.{Behind}
@@ -140,17 +137,17 @@ module _ (b : Bases) (c : List ℕ) (base k : ℕ) (bytes s : List ℕ) (at : �
         rw e (omega (arith, length-append (sizes_form back (length (H ++ C))) (H ++ C), length-append H C))
 
   -- the answer of the measuring call
-  module _ (q : Celled) (told : said_celled q ≡ cells_measured b row bytes Ws Of) (cs : List (Option Cell)) (n : ℕ) (e : Of ≡ got cs n) where
-    says : said_celled q ≡ got (missing_of (show_cells bytes cs), length (cells_bytes b row Ws (show_cells bytes cs))) n
+  module _ (q : Reading (ℕ × ℕ)) (told : said q ≡ cells_measured b row bytes Ws Of) (cs : List (Option Cell)) (n : ℕ) (e : Of ≡ got cs n) where
+    says : said q ≡ got (missing_of (show_cells bytes cs), length (cells_bytes b row Ws (show_cells bytes cs))) n
     says = told ∙ measured_cells b row bytes Ws Of cs n e
 
-    cells_never : {A : Type 0} (f : Fault) (p : ℕ) → q ≡ celled-refused f p → A
-    unfolding said_celled
-    cells_never f p g = never (rw g at says)
+    cells_never : {A : Type 0} (y : Bad) → q ≡ Err y → A
+    unfolding said
+    cells_never y g = never (rw g at says)
 
-    module _ (m z p : ℕ) (g : q ≡ celled-to m z p) where
+    module _ (m z p : ℕ) (g : q ≡ Ok ((m, z), p)) where
       equal : ◌≡◌ {A = Got (ℕ × ℕ)} (got (m, z) p) (got (missing_of (show_cells bytes cs), length (cells_bytes b row Ws (show_cells bytes cs))) n)
-      unfolding said_celled
+      unfolding said
       equal = rw g at says
 
       missing_as : m ≡ missing_of (show_cells bytes cs)
@@ -167,14 +164,14 @@ module _ (b : Bases) (c : List ℕ) (base k : ℕ) (bytes s : List ℕ) (at : �
     (form : (cs : List (Option Cell)) (n : ℕ) → taken_cells b bytes 0 (widths_at c base k) s at (length s) ≡ got cs n → w ≡ F (missing_of (show_cells bytes cs)) (sized_bytes back (content_bytes b (widths_at c base k) (row_view row x bytes cs))))
     (longer : (m : ℕ) (body : List ℕ) → length body ≤ length (F m body))
     (d : List ℕ) (to : ℕ) (fit : Fitting (taken_cells b bytes 0 (widths_at c base k) s at (length s)) w d to)
-    (q : Celled) (told : said_celled q ≡ cells_measured b row bytes (widths_at c base k) (taken_cells b bytes 0 (widths_at c base k) s at (length s))) where
+    (q : Reading (ℕ × ℕ)) (told : said q ≡ cells_measured b row bytes (widths_at c base k) (taken_cells b bytes 0 (widths_at c base k) s at (length s))) where
   abbrev X : Got (List (Option Cell))
   X = taken_cells b bytes 0 (widths_at c base k) s at (length s)
 
-  front_never : {A : Type 0} (f : Fault) (p : ℕ) → q ≡ celled-refused f p → A
-  front_never f p g = cells_never b c base k bytes s at row x inside q told fit.value fit.place fit.is f p g
+  front_never : {A : Type 0} (y : Bad) → q ≡ Err y → A
+  front_never y g = cells_never b c base k bytes s at row x inside q told fit.value fit.place fit.is y g
 
-  module _ (m z p : ℕ) (g : q ≡ celled-to m z p) where
+  module _ (m z p : ℕ) (g : q ≡ Ok ((m, z), p)) where
     ms : m ≡ missing_of (show_cells bytes fit.value)
     ms = missing_as b c base k bytes s at row x inside q told fit.value fit.place fit.is m z p g
 
@@ -225,7 +222,7 @@ plain_longer row x prefix m body = omega (arith, length-append (row_flags 0 row 
 
 module _ (c : List ℕ) (k : Counts) (b : Bases) (bytes s : List ℕ) (at : ℕ) (row : Times) (x : Deletion) (back : ℕ) (prefix : List ℕ) (d : List ℕ) (to : ℕ)
     (fit : Fitting (taken_cells b bytes 0 (widths_at c (16 + 16 * (k.clustering + k.statics)) k.regulars) s at (length s)) (plain_written b (widths_at c (16 + 16 * (k.clustering + k.statics)) k.regulars) bytes back row x prefix (taken_cells b bytes 0 (widths_at c (16 + 16 * (k.clustering + k.statics)) k.regulars) s at (length s))) d to)
-    (table : Table (length c) k) (q : Celled) (told : said_celled q ≡ cells_measured b row bytes (widths_at c (16 + 16 * (k.clustering + k.statics)) k.regulars) (taken_cells b bytes 0 (widths_at c (16 + 16 * (k.clustering + k.statics)) k.regulars) s at (length s))) where
+    (table : Table (length c) k) (q : Reading (ℕ × ℕ)) (told : said q ≡ cells_measured b row bytes (widths_at c (16 + 16 * (k.clustering + k.statics)) k.regulars) (taken_cells b bytes 0 (widths_at c (16 + 16 * (k.clustering + k.statics)) k.regulars) s at (length s))) where
   abbrev Y : Got (List (Option Cell))
   Y = taken_cells b bytes 0 (widths_at c (16 + 16 * (k.clustering + k.statics)) k.regulars) s at (length s)
 
@@ -241,10 +238,10 @@ module _ (c : List ℕ) (k : Counts) (b : Bases) (bytes s : List ℕ) (at : ℕ)
   abbrev F : ℕ → List ℕ → List ℕ
   F m body = plain_again row x m prefix body
 
-  pub plain_never : (f : Fault) (p : ℕ) → q ≡ celled-refused f p → (r : Behind) → PutsTo Y W d d to r
-  plain_never f p g r = front_never b c (16 + 16 * (k.clustering + k.statics)) k.regulars bytes s at row x inside back W F form (plain_longer row x prefix) d to fit q told f p g
+  pub plain_never : (y : Bad) → q ≡ Err y → (r : Behind) → PutsTo Y W d d to r
+  plain_never y g r = front_never b c (16 + 16 * (k.clustering + k.statics)) k.regulars bytes s at row x inside back W F form (plain_longer row x prefix) d to fit q told y g
 
-  module _ (m z p : ℕ) (g : q ≡ celled-to m z p) where
+  module _ (m z p : ℕ) (g : q ≡ Ok ((m, z), p)) where
     pub plain_least : at ≤ p
     plain_least = front_least b c (16 + 16 * (k.clustering + k.statics)) k.regulars bytes s at row x inside back W F form (plain_longer row x prefix) d to fit q told m z p g
 
@@ -274,7 +271,7 @@ entry_of_lem b t bytes back x e n f = rw f refl
 module _ (c : List ℕ) (k : Counts) (b : Bases) (bytes s : List ℕ) (at : ℕ) (d : List ℕ) (to : ℕ) (table : Table (length c) k)
     (fit : Fitting (static_again (widths_of c k) b bytes s at (length s)) (entry_written b (widths_of c k) bytes 0 (static_again (widths_of c k) b bytes s at (length s))) d to)
     (h : Head) (eh : h ≡ head_of (item_of s at))
-    (q : Celled) (told : said_celled q ≡ cells_measured b h.times bytes (widths_at c (16 + 16 * k.clustering) k.statics) (taken_cells b bytes 0 (widths_at c (16 + 16 * k.clustering) k.statics) s (at + 64) (length s))) where
+    (q : Reading (ℕ × ℕ)) (told : said q ≡ cells_measured b h.times bytes (widths_at c (16 + 16 * k.clustering) k.statics) (taken_cells b bytes 0 (widths_at c (16 + 16 * k.clustering) k.statics) s (at + 64) (length s))) where
   abbrev Ew : List ℕ
   Ew = entry_written b (widths_of c k) bytes 0 (static_again (widths_of c k) b bytes s at (length s))
 
@@ -310,11 +307,11 @@ module _ (c : List ℕ) (k : Counts) (b : Bases) (bytes s : List ℕ) (at : ℕ)
   pub static_bits : Bits h.times h.deletion
   static_bits = bits s at h eh
 
-  pub static_never : (f : Fault) (p : ℕ) → q ≡ celled-refused f p → (r : Behind) → PutsTo Se Ew d d to r
-  static_never f p g r =
-      front_never b c (16 + 16 * k.clustering) k.statics bytes s (at + 64) h.times h.deletion static_inside 0 Ew Sf static_form (fixed_longer h.times h.deletion) d to static_fit q told f p g
+  pub static_never : (y : Bad) → q ≡ Err y → (r : Behind) → PutsTo Se Ew d d to r
+  static_never y g r =
+      front_never b c (16 + 16 * k.clustering) k.statics bytes s (at + 64) h.times h.deletion static_inside 0 Ew Sf static_form (fixed_longer h.times h.deletion) d to static_fit q told y g
 
-  module _ (m z p : ℕ) (g : q ≡ celled-to m z p) where
+  module _ (m z p : ℕ) (g : q ≡ Ok ((m, z), p)) where
     pub static_least : at + 64 ≤ p
     static_least =
         front_least b c (16 + 16 * k.clustering) k.statics bytes s (at + 64) h.times h.deletion static_inside 0 Ew Sf static_form (fixed_longer h.times h.deletion) d to static_fit q told m z p g
@@ -360,28 +357,28 @@ prefix_as : (c bytes s : List ℕ) (vs : List Span) (at n k h : ℕ) → Values 
 prefix_as c bytes s vs at n k h v e f = rw (e, f) (prefix_is c bytes s vs at n v)
 
 measured_values : (bytes ws : List ℕ) (x : Got (List Span)) (vs : List Span) (n : ℕ) → x ≡ got vs n
-    → clustering_measured bytes ws x ≡ got (length vs, (header_of (show_values bytes vs), length (values_bytes ws (show_values bytes vs)))) n
+    → clustering_measured bytes ws x ≡ got (length vs, header_of (show_values bytes vs), length (values_bytes ws (show_values bytes vs))) n
 unfolding clustering_measured
 measured_values bytes ws x vs n e = rw e refl
 
-module _ (bytes ws : List ℕ) (x : Got (List Span)) (q : Clustered) (told : said_clustered q ≡ clustering_measured bytes ws x) (vs : List Span) (n : ℕ) (e : x ≡ got vs n) where
-  values_say : said_clustered q ≡ got (length vs, (header_of (show_values bytes vs), length (values_bytes ws (show_values bytes vs)))) n
+module _ (bytes ws : List ℕ) (x : Got (List Span)) (q : Reading (ℕ × ℕ × ℕ)) (told : said q ≡ clustering_measured bytes ws x) (vs : List Span) (n : ℕ) (e : x ≡ got vs n) where
+  values_say : said q ≡ got (length vs, header_of (show_values bytes vs), length (values_bytes ws (show_values bytes vs))) n
   values_say = told ∙ measured_values bytes ws x vs n e
 
-  values_never : {A : Type 0} (f : Fault) (p : ℕ) → q ≡ clustered-refused f p → A
-  unfolding said_clustered
-  values_never f p g = never (rw g at values_say)
+  values_never : {A : Type 0} (y : Bad) → q ≡ Err y → A
+  unfolding said
+  values_never y g = never (rw g at values_say)
 
-  module _ (o h z p : ℕ) (g : q ≡ clustered-to o h z p) where
-    values_equal : ◌≡◌ {A = Got (ℕ × (ℕ × ℕ))} (got (o, (h, z)) p) (got (length vs, (header_of (show_values bytes vs), length (values_bytes ws (show_values bytes vs)))) n)
-    unfolding said_clustered
+  module _ (o h z p : ℕ) (g : q ≡ Ok ((o, h, z), p)) where
+    values_equal : ◌≡◌ {A = Got (ℕ × ℕ × ℕ)} (got (o, h, z) p) (got (length vs, header_of (show_values bytes vs), length (values_bytes ws (show_values bytes vs))) n)
+    unfolding said
     values_equal = rw g at values_say
 
     count_as : o ≡ length vs
-    count_as = ap (λ (y : ℕ × (ℕ × ℕ)). y.0) (got_value values_equal)
+    count_as = ap (λ (y : ℕ × ℕ × ℕ). y.0) (got_value values_equal)
 
     header_as : h ≡ header_of (show_values bytes vs)
-    header_as = ap (λ (y : ℕ × (ℕ × ℕ)). y.1.0) (got_value values_equal)
+    header_as = ap (λ (y : ℕ × ℕ × ℕ). y.1) (got_value values_equal)
 
     next_as : p ≡ n
     next_as = got_place values_equal
@@ -396,7 +393,7 @@ row_form b t back bytes h i vs cs prefix e f = rw (e, ← f) refl
 module _ (c : List ℕ) (k : Counts) (b : Bases) (back : ℕ) (bytes s : List ℕ) (at : ℕ) (d : List ℕ) (to : ℕ) (within : at + 64 ≤ length s)
     (fit : Fitting (row_again (widths_of c k) b bytes s at (length s)) (entry_written b (widths_of c k) bytes back (row_again (widths_of c k) b bytes s at (length s))) d to)
     (h : Head) (eh : h ≡ head_of (item_of s at))
-    (q : Clustered) (told : said_clustered q ≡ clustering_measured bytes (widths_at c 16 k.clustering) (taken_clustering true b bytes 0 (widths_at c 16 k.clustering) s (at + 64) (length s))) where
+    (q : Reading (ℕ × ℕ × ℕ)) (told : said q ≡ clustering_measured bytes (widths_at c 16 k.clustering) (taken_clustering true b bytes 0 (widths_at c 16 k.clustering) s (at + 64) (length s))) where
   abbrev Re : Got Entry
   Re = row_again (widths_of c k) b bytes s at (length s)
 
@@ -409,7 +406,7 @@ module _ (c : List ℕ) (k : Counts) (b : Bases) (back : ℕ) (bytes s : List �
   abbrev Rc : ℕ → Got (List (Option Cell))
   Rc m = taken_cells b bytes 0 Rw s m (length s)
 
-  row_told : said_clustered q ≡ clustering_measured bytes (widths_at c 16 k.clustering) Rv
+  row_told : said q ≡ clustering_measured bytes (widths_at c 16 k.clustering) Rv
   unfolding taken_clustering
   row_told = told
 
@@ -423,8 +420,8 @@ module _ (c : List ℕ) (k : Counts) (b : Bases) (back : ℕ) (bytes s : List �
   two : Parted (Rc one.place) (λ cs n. got (row_entry (row_of 0 (item_of s at)) one.value cs) n) fit.value fit.place
   two = parted _ _ fit.value fit.place one.rest
 
-  pub row_never : (f : Fault) (p : ℕ) → q ≡ clustered-refused f p → (r : Behind) → PutsTo Re (entry_written b (widths_of c k) bytes back Re) d d to r
-  row_never f p g r = values_never bytes (widths_at c 16 k.clustering) Rv q row_told one.value one.place one.is f p g
+  pub row_never : (y : Bad) → q ≡ Err y → (r : Behind) → PutsTo Re (entry_written b (widths_of c k) bytes back Re) d d to r
+  row_never y g r = values_never bytes (widths_at c 16 k.clustering) Rv q row_told one.value one.place one.is y g
 
   pub row_bits : Bits h.times h.deletion
   row_bits = bits s at h eh
@@ -435,7 +432,7 @@ module _ (c : List ℕ) (k : Counts) (b : Bases) (back : ℕ) (bytes s : List �
   pub row_there : ValuesThere bytes s (at + 64) k.clustering
   row_there = rw values.0 at values.1.there
 
-  module _ (o hd z p : ℕ) (g : q ≡ clustered-to o hd z p) where
+  module _ (o hd z p : ℕ) (g : q ≡ Ok ((o, hd, z), p)) where
     hs : hd ≡ header_of (show_values bytes one.value)
     hs = header_as bytes (widths_at c 16 k.clustering) Rv q row_told one.value one.place one.is o hd z p g
 
@@ -485,14 +482,14 @@ bound_prefix c bytes s vs at n k o h v l e f =
 module _ (c : List ℕ) (k : Counts) (b : Bases) (back : ℕ) (bytes s : List ℕ) (at : ℕ) (d : List ℕ) (to : ℕ) (table : Table (length c) k) (kind : (item_of s at).column ≤ 7)
     (fit : Fitting (marker_again (widths_of c k) b bytes s at (length s)) (entry_written b (widths_of c k) bytes back (marker_again (widths_of c k) b bytes s at (length s))) d to)
     (h : Bound) (eh : h ≡ bound_of (item_of s at))
-    (q : Clustered) (told : said_clustered q ≡ clustering_measured bytes (widths_at c 16 k.clustering) (taken_clustering false b bytes 0 (widths_at c 16 k.clustering) s (at + 64) (length s))) where
+    (q : Reading (ℕ × ℕ × ℕ)) (told : said q ≡ clustering_measured bytes (widths_at c 16 k.clustering) (taken_clustering false b bytes 0 (widths_at c 16 k.clustering) s (at + 64) (length s))) where
   abbrev Me : Got Entry
   Me = marker_again (widths_of c k) b bytes s at (length s)
 
   abbrev Mv : Got (List Span)
   Mv = taken_prefix b bytes 0 (widths_at c 16 k.clustering) s (at + 64) (length s)
 
-  marker_told : said_clustered q ≡ clustering_measured bytes (widths_at c 16 k.clustering) Mv
+  marker_told : said q ≡ clustering_measured bytes (widths_at c 16 k.clustering) Mv
   unfolding taken_clustering
   marker_told = told
 
@@ -503,8 +500,8 @@ module _ (c : List ℕ) (k : Counts) (b : Bases) (back : ℕ) (bytes s : List �
   bound : Parted Mv (λ vs n. got (marker_entry (marker_of (item_of s at) vs) 0 vs) n) fit.value fit.place
   bound = parted _ _ fit.value fit.place (sym marker_as ∙ fit.is)
 
-  pub marker_never : (f : Fault) (p : ℕ) → q ≡ clustered-refused f p → (r : Behind) → PutsTo Me (entry_written b (widths_of c k) bytes back Me) d d to r
-  marker_never f p g r = values_never bytes (widths_at c 16 k.clustering) Mv q marker_told bound.value bound.place bound.is f p g
+  pub marker_never : (y : Bad) → q ≡ Err y → (r : Behind) → PutsTo Me (entry_written b (widths_of c k) bytes back Me) d d to r
+  marker_never y g r = values_never bytes (widths_at c 16 k.clustering) Mv q marker_told bound.value bound.place bound.is y g
 
   pub marker_kind : h.kind ≤ 7
   marker_kind = rw eh kind
@@ -512,7 +509,7 @@ module _ (c : List ℕ) (k : Counts) (b : Bases) (back : ℕ) (bytes s : List �
   bounds : (length bound.value ≤ k.clustering) × Values c bytes s 16 bound.value (at + 64) bound.place
   bounds = (prefix_again_lem c bytes s b 0 16 k.clustering (at + 64)).given bound.value bound.place bound.is
 
-  module _ (o hd z p : ℕ) (g : q ≡ clustered-to o hd z p) where
+  module _ (o hd z p : ℕ) (g : q ≡ Ok ((o, hd, z), p)) where
     os : o ≡ length bound.value
     os = count_as bytes (widths_at c 16 k.clustering) Mv q marker_told bound.value bound.place bound.is o hd z p g
 

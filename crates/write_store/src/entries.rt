@@ -14,7 +14,6 @@ use data_field::fields::Deletion;
 use data_marker::markers::Deletions;
 use schema_check::records::Counts;
 use write_measure_parts::ahead;
-use write_measure_parts::parts::{Celled, Clustered};
 use write_record_parts::{convert, fields};
 use write_store_parts::rows;
 
@@ -83,36 +82,31 @@ fn put_row_cells(
     ensures { PutsTo (taken_cells b bytes.now 0 (widths_at c.now (16 + 16 * (k.clustering + k.statics)) k.regulars) s.now at (length s.now)) (plain_written b (widths_at c.now (16 + 16 * (k.clustering + k.statics)) k.regulars) bytes.now back times deletion (prefix_again c.now k.clustering header bytes.now s.now values) (taken_cells b bytes.now 0 (widths_at c.now (16 + 16 * (k.clustering + k.statics)) k.regulars) s.now at (length s.now))) d.old d.new to result }
 {
     let base = (16 + 16 * (k.clustering + k.statics)) as usize;
-    match ahead::size_cells(c, base, k.regulars, b, times, s, bytes, at) {
-        Celled::To {
-            missing,
-            size,
-            next,
-        } => {
-            let many = (next - at) / 64;
-            let out = rows::put_plain(
-                c,
-                k.clustering,
-                header,
-                values,
-                base,
-                b,
-                times,
-                deletion,
-                missing,
-                size,
-                back,
-                s,
-                bytes,
-                at,
-                many,
-                d,
-                to,
-            );
-            Behind { next, out }
-        }
-        Celled::Refused { fault: _, place: _ } => Behind { next: at, out: to },
-    }
+    let Ok(((missing, size), next)) = ahead::size_cells(c, base, k.regulars, b, times, s, bytes, at)
+    else {
+        return Behind { next: at, out: to };
+    };
+    let many = (next - at) / 64;
+    let out = rows::put_plain(
+        c,
+        k.clustering,
+        header,
+        values,
+        base,
+        b,
+        times,
+        deletion,
+        missing,
+        size,
+        back,
+        s,
+        bytes,
+        at,
+        many,
+        d,
+        to,
+    );
+    Behind { next, out }
 }
 
 // The row at at.
@@ -131,29 +125,32 @@ pub(crate) fn put_row(
     ensures { PutsTo (row_again (widths_of c.now k) b bytes.now s.now at (length s.now)) (entry_written b (widths_of c.now k) bytes.now back (row_again (widths_of c.now k) b bytes.now s.now at (length s.now))) d.old d.new to result }
 {
     let head = read_head(s, at);
-    match ahead::size_clustering(c, k.clustering, b, s, bytes, at + 64, true) {
-        Clustered::To {
-            count: _,
-            header,
-            size: _,
-            next,
-        } => put_row_cells(
-            c,
-            k,
-            b,
-            head.times,
-            head.deletion,
-            header,
-            at + 64,
-            back,
-            s,
-            bytes,
-            next,
-            d,
-            to,
-        ),
-        Clustered::Refused { fault: _, place: _ } => Behind { next: at, out: to },
-    }
+    let Ok(((_, header, _), next)) = ahead::size_clustering(
+        c,
+        k.clustering,
+        b,
+        s,
+        bytes,
+        at + 64,
+        true,
+    ) else {
+        return Behind { next: at, out: to };
+    };
+    put_row_cells(
+        c,
+        k,
+        b,
+        head.times,
+        head.deletion,
+        header,
+        at + 64,
+        back,
+        s,
+        bytes,
+        next,
+        d,
+        to,
+    )
 }
 
 // The static row at at.
@@ -172,32 +169,35 @@ pub(crate) fn put_static(
 {
     let base = (16 + 16 * k.clustering) as usize;
     let head = read_head(s, at);
-    match ahead::size_cells(c, base, k.statics, b, head.times, s, bytes, at + 64) {
-        Celled::To {
-            missing,
-            size,
-            next,
-        } => {
-            let many = (next - (at + 64)) / 64;
-            let out = rows::put_fixed(
-                c,
-                base,
-                b,
-                head.times,
-                head.deletion,
-                missing,
-                size,
-                s,
-                bytes,
-                at + 64,
-                many,
-                d,
-                to,
-            );
-            Behind { next, out }
-        }
-        Celled::Refused { fault: _, place: _ } => Behind { next: at, out: to },
-    }
+    let Ok(((missing, size), next)) = ahead::size_cells(
+        c,
+        base,
+        k.statics,
+        b,
+        head.times,
+        s,
+        bytes,
+        at + 64,
+    ) else {
+        return Behind { next: at, out: to };
+    };
+    let many = (next - (at + 64)) / 64;
+    let out = rows::put_fixed(
+        c,
+        base,
+        b,
+        head.times,
+        head.deletion,
+        missing,
+        size,
+        s,
+        bytes,
+        at + 64,
+        many,
+        d,
+        to,
+    );
+    Behind { next, out }
 }
 
 // The marker at at.
@@ -216,29 +216,30 @@ pub(crate) fn put_marker(
     ensures { PutsTo (marker_again (widths_of c.now k) b bytes.now s.now at (length s.now)) (entry_written b (widths_of c.now k) bytes.now back (marker_again (widths_of c.now k) b bytes.now s.now at (length s.now))) d.old d.new to result }
 {
     let bound = read_bound(s, at);
-    match ahead::size_clustering(c, k.clustering, b, s, bytes, at + 64, false) {
-        Clustered::To {
-            count,
-            header,
-            size: _,
-            next,
-        } => {
-            let out = rows::put_bound(
-                c,
-                count,
-                header,
-                b,
-                bound.kind,
-                bound.deletions,
-                back,
-                s,
-                bytes,
-                at + 64,
-                d,
-                to,
-            );
-            Behind { next, out }
-        }
-        Clustered::Refused { fault: _, place: _ } => Behind { next: at, out: to },
-    }
+    let Ok(((count, header, _), next)) = ahead::size_clustering(
+        c,
+        k.clustering,
+        b,
+        s,
+        bytes,
+        at + 64,
+        false,
+    ) else {
+        return Behind { next: at, out: to };
+    };
+    let out = rows::put_bound(
+        c,
+        count,
+        header,
+        b,
+        bound.kind,
+        bound.deletions,
+        back,
+        s,
+        bytes,
+        at + 64,
+        d,
+        to,
+    );
+    Behind { next, out }
 }

@@ -85,6 +85,7 @@ fn put_entries(
     let mut p = at;
     let mut out = to;
     let mut back = start;
+    // Where the next entry begins stands in this one: no range holds the steps.
     loop {
         if s[p] == 7 {
             out = numbers::put_byte(d, out, 1);
@@ -138,6 +139,7 @@ pub fn put_contents(c: &[u8], k: Counts, b: Bases, s: &[u8], bytes: &[u8], d: &m
 {
     let mut p: usize = 0;
     let mut out: usize = 0;
+    // Where the next partition begins stands in this one.
     while p != s.len() {
         let behind = put_partition(c, k, b, s, bytes, p, d, out);
         p = behind.next;

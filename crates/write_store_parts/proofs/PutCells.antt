@@ -85,7 +85,6 @@ there_rest c base bytes s at k h = record {
 
 -- the cells from the i-th on; R is what all of them are
 pub record Celling (R : List ℕ) (b : Bases) (row : Times) (c : List ℕ) (base : ℕ) (bytes s : List ℕ) (k : ℕ) (d₀ d : List ℕ) (to i p out : ℕ) : Type 0 where
-  pub most : i ≤ k
   pub there : CellsThere c base bytes s p (k - i)
   pub writing : Writing R d₀ d to out (cells_again b row c base bytes s p (k - i))
 
@@ -95,7 +94,6 @@ module _ (b : Bases) (row : Times) (c : List ℕ) (base : ℕ) (bytes s : List �
   celling_none t r =
       let e : k - 0 ≡ k = omega arith in
       record {
-        most = omega arith;
         there = rw e t;
         writing = rw e (writing_none (cells_again b row c base bytes s at k) d to r);
       }
@@ -119,9 +117,6 @@ module _ (R : List ℕ) (b : Bases) (row : Times) (c : List ℕ) (base : ℕ) (b
     celling_record : p + 64 ≤ length s
     celling_record = one_record b row c base bytes s p celling_there
 
-    pub celling_sum : k < 2 ^ 64 → i + 1 < 18446744073709551616
-    celling_sum m = omega arith
-
     pub celling_place : length s < 2 ^ 64 → p + 64 < 18446744073709551616
     celling_place m = omega (arith, celling_record)
 
@@ -133,9 +128,8 @@ module _ (R : List ℕ) (b : Bases) (row : Times) (c : List ℕ) (base : ℕ) (b
 
     pub celling_more : (d' : List ℕ) (n : ℕ) → Puts d d' out (cell_again b row c base bytes s p) n → Celling R b row c base bytes s k d₀ d' to (i + 1) (p + 64) n
     celling_more d' n w = record {
-      most = omega arith;
       there = there_rest c base bytes s p (k - (i + 1)) (rw (← more) v.there);
       writing = writing_more R d₀ d to out _ v.writing _ _ parts d' n w;
     }
 
-pub ruleset celling = (celling_none, celling_same, celling_end, celling_there, celling_sum, celling_place, celling_room, celling_more)
+pub ruleset celling = (celling_none, celling_same, celling_end, celling_there, celling_place, celling_room, celling_more)

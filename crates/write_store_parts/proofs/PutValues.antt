@@ -52,7 +52,6 @@ there_rest bytes s at k h = record {
 -- the values from column i on; R is what all of them are
 pub record Valuing (R : List ℕ) (c : List ℕ) (bytes s : List ℕ) (k : ℕ) (d₀ d : List ℕ) (to column i p out : ℕ) : Type 0 where
   pub inside : column + 16 * (k - i) ≤ length c
-  pub most : i ≤ k
   pub few : k ≤ 32
   pub there : ValuesThere bytes s p (k - i)
   pub writing : Writing R d₀ d to out (values_again c column bytes s p (k - i))
@@ -64,7 +63,6 @@ module _ (c : List ℕ) (bytes s : List ℕ) (k at : ℕ) (d : List ℕ) (to : �
       let e : k - 0 ≡ k = omega arith in
       record {
         inside = omega arith;
-        most = omega arith;
         few = l;
         there = rw e t;
         writing = rw e (writing_none (values_again c 16 bytes s at k) d to r);
@@ -92,9 +90,6 @@ module _ (R : List ℕ) (c : List ℕ) (bytes s : List ℕ) (k : ℕ) (d₀ d : 
     pub valuing_index : column + 3 < length c
     valuing_index = omega (arith, v.inside)
 
-    pub valuing_sum : i + 1 < 18446744073709551616
-    valuing_sum = omega (arith, v.few)
-
     module _ (m : length s < 2 ^ 64) where
       pub valuing_next : p + 64 < 18446744073709551616
       valuing_next = omega (arith, valuing_record)
@@ -112,10 +107,9 @@ module _ (R : List ℕ) (c : List ℕ) (bytes s : List ℕ) (k : ℕ) (d₀ d : 
     pub valuing_more : (d' : List ℕ) (n : ℕ) → Puts d d' out (value_again c column bytes s p) n → Valuing R c bytes s k d₀ d' to (column + 16) (i + 1) (p + 64) n
     valuing_more d' n w = record {
       inside = omega (arith, v.inside);
-      most = omega arith;
       few = v.few;
       there = there_rest bytes s p (k - (i + 1)) (rw (← more) v.there);
       writing = writing_more R d₀ d to out _ v.writing _ _ parts d' n w;
     }
 
-pub ruleset valuing = (valuing_none, valuing_same, valuing_end, valuing_there, valuing_index, valuing_sum, valuing_next, valuing_column, valuing_room, valuing_more)
+pub ruleset valuing = (valuing_none, valuing_same, valuing_end, valuing_there, valuing_index, valuing_next, valuing_column, valuing_room, valuing_more)

@@ -40,14 +40,12 @@ pub(crate) fn put_values(
     ensures { Puts d.old d.new to (values_again c.now 16 bytes.now s.now at k) result }
 {
     let mut column: usize = 16;
-    let mut i: u64 = 0;
     let mut p = at;
     let mut out = to;
-    while i < k {
+    for _ in 0..k {
         out = put_value(c, column, s, bytes, p, d, out);
         column += 16;
         p += 64;
-        i += 1;
     }
     out
 }
@@ -89,13 +87,11 @@ pub(crate) fn put_cells(
     requires { CellsThere c.now base bytes.now s.now at k × Room d.old to (cells_again b times c.now base bytes.now s.now at k) }
     ensures { Puts d.old d.new to (cells_again b times c.now base bytes.now s.now at k) result }
 {
-    let mut i: usize = 0;
     let mut p = at;
     let mut out = to;
-    while i < k {
+    for _ in 0..k {
         out = put_cell(c, base, b, times, s, bytes, p, d, out);
         p += 64;
-        i += 1;
     }
     out
 }

@@ -31,9 +31,6 @@ overflow_add-v c =
     let e = be_fits a.acc a.s.now a.at a.n c.loop-i.i (λ k. (c.type_inv.s k).fits) c.requires.1 (omega arith) in
     omega (arith, rw (← c.loop-i.invariant.1) at e)
 
-pub overflow_add-i : goal.overflow_add-i
-overflow_add-i c = omega arith
-
 pub loop-i-smaller : goal.loop-i-smaller
 loop-i-smaller c = omega arith
 

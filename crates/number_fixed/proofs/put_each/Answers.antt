@@ -21,9 +21,6 @@ overflow_add-d c = search (length_bytes_of, byte_is, stores, rules)
 pub bounds-d-at : goal.bounds-d-at
 bounds-d-at c = search (length_bytes_of, byte_is, stores, rules)
 
-pub overflow_add-i : goal.overflow_add-i
-overflow_add-i c = search (length_bytes_of, byte_is, stores, rules)
-
 pub loop-i-smaller : goal.loop-i-smaller
 loop-i-smaller c = search (length_bytes_of, byte_is, stores, rules)
 

@@ -6,4 +6,4 @@ pub bounds-d-at : goal.bounds-d-at
 bounds-d-at c = search (one_index, one_puts, rules)
 
 pub returns : goal.returns
-returns c = search (one_index, one_puts, rules)
+returns c = search (one_puts, rules)

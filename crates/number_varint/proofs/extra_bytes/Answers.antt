@@ -11,9 +11,6 @@ returns-then-x-lt128 c = sym (extra_small 8 _ (omega arith))
 pub overflow_cast-zeros : goal.overflow_cast-zeros
 overflow_cast-zeros c = Fits-le (leading_le 64 _) (Fits-lit tt)
 
-pub overflow_mul-result : goal.overflow_mul-result
-overflow_mul-result c = omega (arith, leading_le 64 c.before.args.x)
-
 pub overflow_sub-result : goal.overflow_sub-result
 overflow_sub-result c = zeros_most c.before.args.x (omega arith) c.before.ranges.x.fits
 

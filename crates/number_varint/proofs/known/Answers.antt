@@ -14,9 +14,6 @@ overflow_add-result c = search (known, rules) depth 12
 pub returns-then-b-lt128 : goal.returns-then-b-lt128
 returns-then-b-lt128 c = search (known, rules) depth 12
 
-pub overflow_add-at : goal.overflow_add-at
-overflow_add-at c = search (known, rules) depth 12
-
 pub eight-w-requires : goal.eight-w-requires
 eight-w-requires c = search (known, rules) depth 12
 
@@ -29,9 +26,6 @@ pub overflow_sub-result : goal.overflow_sub-result
 overflow_sub-result c =
     let few : c.ones-n.result ≤ 8 = rw c.ones-n.ensures (leading_le _ (c.type_inv.s c.args.at).fits) in
     omega arith
-
-pub overflow_add-result-2 : goal.overflow_add-result-2
-overflow_add-result-2 c = search (known, rules) depth 12
 
 pub overflow_add-result-3 : goal.overflow_add-result-3
 overflow_add-result-3 c = search (known, rules) depth 12

@@ -1,16 +1,12 @@
-use Rattle.common.proofs.Puts.{puts_same}
 use Rattle.number_varint.proofs.Varints.{put_varint}
 use borrow.Author.Rules.{rules}
 use Rattle.number_varint.proofs.put_in.Goals as goal
 
 pub bounds-d-at : goal.bounds-d-at
-bounds-d-at c = search (put_varint, puts_same, rules)
+bounds-d-at c = search (put_varint, rules)
 
 pub put_in-requires : goal.put_in-requires
-put_in-requires c = search (put_varint, puts_same, rules)
-
-pub shape_of-d : goal.shape_of-d
-shape_of-d c = search (put_varint, puts_same, rules)
+put_in-requires c = search (put_varint, rules)
 
 pub returns : goal.returns
-returns c = search (put_varint, puts_same, rules)
+returns c = search (put_varint, rules)

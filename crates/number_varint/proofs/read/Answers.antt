@@ -19,8 +19,8 @@ returns-then-b-lt128 c = search (reading, cases, varint_cases, rules) depth 12
 pub returns-then-end-at-2 : goal.returns-then-end-at-2
 returns-then-end-at-2 c = search (reading, cases, varint_cases, rules) depth 12
 
-pub known-varint-requires : goal.known-varint-requires
-known-varint-requires c = search (reading, cases, varint_cases, rules) depth 12
+pub known-requires : goal.known-requires
+known-requires c = search (reading, cases, varint_cases, rules) depth 12
 
 pub returns : goal.returns
 returns c = search (reading, cases, varint_cases, rules) depth 12

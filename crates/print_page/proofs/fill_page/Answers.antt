@@ -7,8 +7,8 @@ use Rattle.print_page.proofs.fill_page.Goals as goal
 pub fill-requires : goal.fill-requires
 fill-requires c = search (page_counted, page_unchecked, tables, puts_same, rules)
 
-pub returns-in-Counted : goal.returns-in-Counted
-returns-in-Counted c = search (page_counted, page_unchecked, tables, puts_same, rules)
+pub returns-in-Ok-clause-fills : goal.returns-in-Ok-clause-fills
+returns-in-Ok-clause-fills c = search (page_counted, page_unchecked, tables, puts_same, rules)
 
-pub returns-in-Refused : goal.returns-in-Refused
-returns-in-Refused c = search (page_counted, page_unchecked, tables, puts_same, rules)
+pub returns-in-Err-clause-fills : goal.returns-in-Err-clause-fills
+returns-in-Err-clause-fills c = search (page_counted, page_unchecked, tables, puts_same, rules)

@@ -20,21 +20,6 @@ bounds-schema-at-then-schema-at-eq1 c = search (ordered, rules)
 pub is_ordered-requires : goal.is_ordered-requires
 is_ordered-requires c = search (ordered, rules)
 
-pub overflow_add-i : goal.overflow_add-i
-overflow_add-i c = search (ordered, rules)
-
-pub loop-i-smaller-then-is_ordered : goal.loop-i-smaller-then-is_ordered
-loop-i-smaller-then-is_ordered c = search (ordered, rules)
-
-pub loop-i-preserved-then-is_ordered : goal.loop-i-preserved-then-is_ordered
-loop-i-preserved-then-is_ordered c = search (ordered, rules)
-
-pub returns-then-schema-at-eq1 : goal.returns-then-schema-at-eq1
-returns-then-schema-at-eq1 c = search (ordered, rules)
-
-pub overflow_add-i-in-loop-i : goal.overflow_add-i-in-loop-i
-overflow_add-i-in-loop-i c = search (ordered, rules)
-
 pub loop-i-smaller : goal.loop-i-smaller
 loop-i-smaller c = search (ordered, rules)
 
@@ -43,3 +28,6 @@ loop-i-preserved c = search (ordered, rules)
 
 pub returns : goal.returns
 returns c = search (ordered, rules)
+
+pub returns-then-not-is_ordered : goal.returns-then-not-is_ordered
+returns-then-not-is_ordered c = search (ordered, rules)

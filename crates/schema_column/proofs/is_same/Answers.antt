@@ -14,17 +14,14 @@ overflow_mul-i c = search (alike, rules)
 pub is_same_column-requires : goal.is_same_column-requires
 is_same_column-requires c = search (alike, rules)
 
-pub overflow_add-i : goal.overflow_add-i
-overflow_add-i c = search (alike, rules)
-
 pub loop-i-smaller : goal.loop-i-smaller
 loop-i-smaller c = search (alike, rules)
 
 pub loop-i-preserved : goal.loop-i-preserved
 loop-i-preserved c = search (alike, rules)
 
-pub returns-in-loop-i : goal.returns-in-loop-i
-returns-in-loop-i c = search (alike, rules)
-
 pub returns : goal.returns
 returns c = search (alike, rules)
+
+pub returns-then-not-is_same_column : goal.returns-then-not-is_same_column
+returns-then-not-is_same_column c = search (alike, rules)

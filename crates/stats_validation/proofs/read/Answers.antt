@@ -1,7 +1,6 @@
+use Rattle.common.proofs.Choose.{cases, told}
+use Rattle.common.proofs.Said.{trying, said_again}
 use Rattle.number_fixed.proofs.BigEndian.{fixed_within}
-use Rattle.common.proofs.Choose.{cases}
-use Rattle.common.proofs.Said.{reading}
-use Rattle.stats_validation.proofs.Said.{answers}
 use Rattle.stats_validation.specs.Validation.{validation_at}
 use borrow.Author.Rules.{rules}
 use Rattle.stats_validation.proofs.read.Goals as goal
@@ -9,22 +8,22 @@ use Rattle.stats_validation.proofs.read.Goals as goal
 pub overflow_sub-end : goal.overflow_sub-end
 overflow_sub-end c = search (fixed_within, rules)
 
-pub returns-then-end-next : goal.returns-then-end-next
+pub returns-in_err-value : goal.returns-in_err-value
 unfolding validation_at
-returns-then-end-next c = search (fixed_within, reading, answers, cases) depth 12
+returns-in_err-value c = said_again _ _ _ c.from_residual.ensures (search (trying, cases) depth 12)
 
-pub returns-then-after-end : goal.returns-then-after-end
+pub returns-then-end-name : goal.returns-then-end-name
 unfolding validation_at
-returns-then-after-end c = search (fixed_within, reading, answers, cases) depth 12
+returns-then-end-name c = search (trying, cases) depth 12
 
-pub returns-else-after-end : goal.returns-else-after-end
+pub returns-in_err-chance : goal.returns-in_err-chance
 unfolding validation_at
-returns-else-after-end c = search (fixed_within, reading, answers, cases) depth 12
+returns-in_err-chance c = said_again _ _ _ c.from_residual-in_err-chance.ensures (search (fixed_within, trying, told, cases) depth 12)
 
-pub returns-in-Refused-chance_at : goal.returns-in-Refused-chance_at
+pub returns-then-next-end : goal.returns-then-next-end
 unfolding validation_at
-returns-in-Refused-chance_at c = search (fixed_within, reading, answers, cases) depth 12
+returns-then-next-end c = search (fixed_within, trying, cases) depth 12
 
-pub returns-in-Refused : goal.returns-in-Refused
+pub returns : goal.returns
 unfolding validation_at
-returns-in-Refused c = search (fixed_within, reading, answers, cases) depth 12
+returns c = search (fixed_within, trying, cases) depth 12

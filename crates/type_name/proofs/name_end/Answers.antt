@@ -5,23 +5,11 @@ use Rattle.type_name.proofs.name_end.Goals as goal
 pub loop-i-init : goal.loop-i-init
 loop-i-init c = search (passing, rules)
 
-pub bounds-s-i : goal.bounds-s-i
-bounds-s-i c = search (passing, rules)
-
-pub is_name-requires : goal.is_name-requires
-is_name-requires c = search (passing, rules)
-
-pub overflow_add-i : goal.overflow_add-i
-overflow_add-i c = search (passing, rules)
-
-pub loop-i-smaller : goal.loop-i-smaller
-loop-i-smaller c = search (passing, rules)
-
 pub loop-i-preserved : goal.loop-i-preserved
 loop-i-preserved c = search (passing, rules)
 
-pub returns-else-is_name : goal.returns-else-is_name
-returns-else-is_name c = search (passing, rules)
-
 pub returns : goal.returns
 returns c = search (passing, rules)
+
+pub returns-then-not-is_name : goal.returns-then-not-is_name
+returns-then-not-is_name c = search (passing, rules)

@@ -11,9 +11,6 @@ has_name-requires c = search (finding, rules)
 pub returns-then-has_name : goal.returns-then-has_name
 returns-then-has_name c = search (finding, rules)
 
-pub overflow_add-line : goal.overflow_add-line
-overflow_add-line c = search (finding, rules)
-
 pub loop-line-smaller : goal.loop-line-smaller
 loop-line-smaller c = search (finding, rules)
 

@@ -4,6 +4,3 @@ use Rattle.type_table.proofs.find.Given as goal
 
 abbrev pub invariant-loop-line : goal.invariant-loop-line
 invariant-loop-line l = Finding l.name l.line
-
-abbrev pub decreases-loop-line : goal.decreases-loop-line
-decreases-loop-line l = 35 - l.line

@@ -1,13 +1,12 @@
 use Rattle.common.proofs.Choose.{cases}
-use Rattle.common.proofs.Said.{reading}
-use Rattle.data_cell.proofs.Said.{answers}
+use Rattle.common.proofs.Said.{trying, said_again}
 use Rattle.data_cell.specs.Cells.{cell_at}
 use Rattle.data_cell.proofs.cells.read_cell.Goals as goal
 
-pub returns-in-Number : goal.returns-in-Number
+pub returns-in_err-value : goal.returns-in_err-value
 unfolding cell_at
-returns-in-Number c = search (reading, answers, cases) depth 12
+returns-in_err-value c = said_again _ _ _ c.from_residual.ensures (search (trying, cases) depth 12)
 
-pub returns-in-Refused : goal.returns-in-Refused
+pub returns : goal.returns
 unfolding cell_at
-returns-in-Refused c = search (reading, answers, cases) depth 12
+returns c = search (trying, cases) depth 12

@@ -1,17 +1,16 @@
 use Rattle.common.proofs.Choose.{cases}
-use Rattle.common.proofs.Said.{reading}
-use Rattle.data_cell.proofs.Said.{answers}
+use Rattle.common.proofs.Said.{trying, said_again}
 use Rattle.data_cell.specs.Cells.{own_at}
 use Rattle.data_cell.proofs.cells.read_own.Goals as goal
 
-pub returns-in-Number-read_ttl : goal.returns-in-Number-read_ttl
+pub returns-in_err-local : goal.returns-in_err-local
 unfolding own_at
-returns-in-Number-read_ttl c = search (reading, answers, cases) depth 12
+returns-in_err-local c = said_again _ _ _ c.from_residual.ensures (search (trying, cases) depth 12)
 
-pub returns-in-Refused-read_ttl : goal.returns-in-Refused-read_ttl
+pub returns-in_err-ttl : goal.returns-in_err-ttl
 unfolding own_at
-returns-in-Refused-read_ttl c = search (reading, answers, cases) depth 12
+returns-in_err-ttl c = said_again _ _ _ c.from_residual-in_err-ttl.ensures (search (trying, cases) depth 12)
 
-pub returns-in-Refused : goal.returns-in-Refused
+pub returns : goal.returns
 unfolding own_at
-returns-in-Refused c = search (reading, answers, cases) depth 12
+returns c = search (trying, cases) depth 12

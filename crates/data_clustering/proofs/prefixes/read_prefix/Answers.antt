@@ -1,18 +1,17 @@
 use Rattle.common.proofs.Choose.{cases}
-use Rattle.common.proofs.Said.{reading}
-use Rattle.data_clustering.proofs.Said.{answers}
+use Rattle.common.proofs.Said.{trying, places, said_again}
 use Rattle.data_clustering.proofs.Loops.{header_of_lem}
 use Rattle.data_clustering.specs.Prefixes.{prefix_at}
 use Rattle.data_clustering.proofs.prefixes.read_prefix.Goals as goal
 
-pub returns-in-To : goal.returns-in-To
+pub returns-in_err-value : goal.returns-in_err-value
 unfolding prefix_at
-returns-in-To c = search (reading, answers, cases, header_of_lem) depth 12
+returns-in_err-value c = said_again _ _ _ c.from_residual.ensures (search (trying, cases, header_of_lem) depth 12)
 
-pub returns-in-Refused-skip_values : goal.returns-in-Refused-skip_values
+pub returns-in_err-after : goal.returns-in_err-after
 unfolding prefix_at
-returns-in-Refused-skip_values c = search (reading, answers, cases, header_of_lem) depth 12
+returns-in_err-after c = said_again _ _ _ c.from_residual-in_err-after.ensures (search (trying, places, cases, header_of_lem) depth 12)
 
-pub returns-in-Refused : goal.returns-in-Refused
+pub returns : goal.returns
 unfolding prefix_at
-returns-in-Refused c = search (reading, answers, cases, header_of_lem) depth 12
+returns c = search (trying, places, cases, header_of_lem) depth 12

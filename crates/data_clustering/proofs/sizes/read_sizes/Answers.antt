@@ -1,5 +1,5 @@
 use Rattle.common.proofs.Choose.{cases}
-use Rattle.common.proofs.Said.{reading}
+use Rattle.common.proofs.Said.{trying, said_again}
 use Rattle.number_varint.proofs.Varints.{varint_within}
 use Rattle.data_clustering.specs.Sizes.{sizes_at}
 use borrow.Author.Rules.{rules}
@@ -10,16 +10,16 @@ overflow_sub-end c = search (varint_within, rules)
 
 pub returns-then-end-next : goal.returns-then-end-next
 unfolding sizes_at
-returns-then-end-next c = search (reading, cases) depth 12
+returns-then-end-next c = search (trying, cases) depth 12
 
-pub returns-in-Number-read : goal.returns-in-Number-read
+pub returns-in_err-value : goal.returns-in_err-value
 unfolding sizes_at
-returns-in-Number-read c = search (reading, cases) depth 12
+returns-in_err-value c = said_again _ _ _ c.from_residual.ensures (search (trying, cases) depth 12)
 
-pub returns-in-Refused-read : goal.returns-in-Refused-read
+pub returns-in_err-after : goal.returns-in_err-after
 unfolding sizes_at
-returns-in-Refused-read c = search (reading, cases) depth 12
+returns-in_err-after c = said_again _ _ _ c.from_residual-in_err-after.ensures (search (trying, cases) depth 12)
 
-pub returns-in-Refused : goal.returns-in-Refused
+pub returns : goal.returns
 unfolding sizes_at
-returns-in-Refused c = search (reading, cases) depth 12
+returns c = search (trying, cases) depth 12

@@ -1,4 +1,3 @@
-use native.Mathlib.Omega.{arith}
 use Rattle.common.proofs.Choose.{cases}
 use Rattle.common.proofs.Said.{reading}
 use Rattle.data_field.specs.Fields.{byte_at}
@@ -11,9 +10,6 @@ returns-then-s-end c = search (reading, cases) depth 12
 pub returns-then-end-at : goal.returns-then-end-at
 unfolding byte_at
 returns-then-end-at c = search (reading, cases) depth 12
-
-pub overflow_cast-value : goal.overflow_cast-value
-overflow_cast-value c = omega (arith, c.type_inv.s c.args.at)
 
 pub returns : goal.returns
 unfolding byte_at

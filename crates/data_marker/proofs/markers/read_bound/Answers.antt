@@ -1,7 +1,5 @@
 use Rattle.common.proofs.Choose.{cases}
-use Rattle.common.proofs.Said.{reading}
-use Rattle.data_marker.proofs.Said.{answers}
-use Rattle.data_clustering.proofs.Said.{answers as prefixes}
+use Rattle.common.proofs.Said.{trying, said_again}
 use Rattle.data_marker.specs.Markers.{bound_at}
 use Rattle.data_marker.proofs.Counts.{count_of, prefix_of, count_fits}
 use borrow.Author.Rules.{rules}
@@ -10,18 +8,18 @@ use Rattle.data_marker.proofs.markers.read_bound.Goals as goal
 pub read_prefix-requires : goal.read_prefix-requires
 read_prefix-requires c = search (count_fits, rules)
 
-pub returns-in-By : goal.returns-in-By
+pub returns-in_err-count : goal.returns-in_err-count
 unfolding bound_at
-returns-in-By c = search (reading, answers, prefixes, cases, count_of, prefix_of) depth 12
+returns-in_err-count c = said_again _ _ _ c.from_residual.ensures (search (trying, cases, count_of) depth 12)
 
-pub returns-in-Refused-read_body : goal.returns-in-Refused-read_body
+pub returns-in_err-prefix : goal.returns-in_err-prefix
 unfolding bound_at
-returns-in-Refused-read_body c = search (reading, answers, prefixes, cases, count_of, prefix_of) depth 12
+returns-in_err-prefix c = said_again _ _ _ c.from_residual-in_err-prefix.ensures (search (trying, cases, count_of, prefix_of) depth 12)
 
-pub returns-in-Refused-read_prefix : goal.returns-in-Refused-read_prefix
+pub returns-in_err-deletions : goal.returns-in_err-deletions
 unfolding bound_at
-returns-in-Refused-read_prefix c = search (reading, answers, prefixes, cases, count_of, prefix_of) depth 12
+returns-in_err-deletions c = said_again _ _ _ c.from_residual-in_err-deletions.ensures (search (trying, cases, count_of, prefix_of) depth 12)
 
-pub returns-in-Refused : goal.returns-in-Refused
+pub returns : goal.returns
 unfolding bound_at
-returns-in-Refused c = search (reading, answers, prefixes, cases, count_of, prefix_of) depth 12
+returns c = search (trying, cases, count_of, prefix_of) depth 12

@@ -1,21 +1,20 @@
-use Rattle.common.proofs.Choose.{cases}
-use Rattle.data_marker.proofs.Said.{answers}
-use Rattle.data_cell.proofs.Said.{answers as fields}
+use Rattle.common.proofs.Choose.{cases, told}
+use Rattle.common.proofs.Said.{trying, said_again}
 use Rattle.data_marker.specs.Markers.{deletions_at}
 use Rattle.data_marker.proofs.markers.read_deletions.Goals as goal
 
 pub returns-then-after-end : goal.returns-then-after-end
 unfolding deletions_at
-returns-then-after-end c = search (answers, fields, cases) depth 12
+returns-then-after-end c = search (trying, cases) depth 12
 
-pub returns-else-after-end : goal.returns-else-after-end
+pub returns-in_err-first : goal.returns-in_err-first
 unfolding deletions_at
-returns-else-after-end c = search (answers, fields, cases) depth 12
+returns-in_err-first c = said_again _ _ _ c.from_residual.ensures (search (trying, cases) depth 12)
 
-pub returns-in-Refused-read_second : goal.returns-in-Refused-read_second
+pub returns-in_err-second : goal.returns-in_err-second
 unfolding deletions_at
-returns-in-Refused-read_second c = search (answers, fields, cases) depth 12
+returns-in_err-second c = said_again _ _ _ c.from_residual-in_err-second.ensures (search (trying, cases) depth 12)
 
-pub returns-in-Refused : goal.returns-in-Refused
+pub returns : goal.returns
 unfolding deletions_at
-returns-in-Refused c = search (answers, fields, cases) depth 12
+returns c = search (trying, told, cases) depth 12

@@ -1,17 +1,16 @@
 use Rattle.common.proofs.Choose.{cases}
-use Rattle.common.proofs.Said.{reading}
-use Rattle.data_marker.proofs.Said.{answers}
+use Rattle.common.proofs.Said.{trying, said_again}
 use Rattle.data_marker.specs.Markers.{marker_at}
 use Rattle.data_marker.proofs.markers.read_marker.Goals as goal
 
-pub returns-in-Number-read_kind : goal.returns-in-Number-read_kind
+pub returns-in_err-next : goal.returns-in_err-next
 unfolding marker_at
-returns-in-Number-read_kind c = search (reading, answers, cases) depth 12
+returns-in_err-next c = said_again _ _ _ c.from_residual.ensures (search (trying, cases) depth 12)
 
-pub returns-in-Refused-read_kind : goal.returns-in-Refused-read_kind
+pub returns-in_err-kind : goal.returns-in_err-kind
 unfolding marker_at
-returns-in-Refused-read_kind c = search (reading, answers, cases) depth 12
+returns-in_err-kind c = said_again _ _ _ c.from_residual-in_err-kind.ensures (search (trying, cases) depth 12)
 
-pub returns-in-Refused : goal.returns-in-Refused
+pub returns : goal.returns
 unfolding marker_at
-returns-in-Refused c = search (reading, answers, cases) depth 12
+returns c = search (trying, cases) depth 12

@@ -1,21 +1,20 @@
-use Rattle.common.proofs.Choose.{cases}
-use Rattle.common.proofs.Said.{reading}
-use Rattle.data_cell.proofs.Said.{answers as fields}
+use Rattle.common.proofs.Choose.{cases, told}
+use Rattle.common.proofs.Said.{trying, said_again}
 use Rattle.data_partition.specs.Partitions.{deleted_at}
 use Rattle.data_partition.proofs.partitions.read_deleted.Goals as goal
 
 pub returns-then-local-gt2147483647 : goal.returns-then-local-gt2147483647
 unfolding deleted_at
-returns-then-local-gt2147483647 c = search (reading, fields, cases) depth 12
+returns-then-local-gt2147483647 c = search (trying, cases) depth 12
 
-pub returns-in-Number-read : goal.returns-in-Number-read
+pub returns-in_err-local : goal.returns-in_err-local
 unfolding deleted_at
-returns-in-Number-read c = search (reading, fields, cases) depth 12
+returns-in_err-local c = said_again _ _ _ c.from_residual.ensures (search (trying, cases) depth 12)
 
-pub returns-in-Refused-read : goal.returns-in-Refused-read
+pub returns-in_err-value : goal.returns-in_err-value
 unfolding deleted_at
-returns-in-Refused-read c = search (reading, fields, cases) depth 12
+returns-in_err-value c = said_again _ _ _ c.from_residual-in_err-value.ensures (search (trying, told, cases) depth 12)
 
-pub returns-in-Refused : goal.returns-in-Refused
+pub returns : goal.returns
 unfolding deleted_at
-returns-in-Refused c = search (reading, fields, cases) depth 12
+returns c = search (trying, told, cases) depth 12

@@ -1,7 +1,5 @@
-use Rattle.common.proofs.Choose.{cases}
-use Rattle.common.proofs.Said.{reading}
-use Rattle.data_partition.proofs.Said.{answers}
-use Rattle.data_cell.proofs.Said.{answers as fields}
+use Rattle.common.proofs.Choose.{cases, told}
+use Rattle.common.proofs.Said.{trying, said_again}
 use Rattle.data_partition.specs.Partitions.{partition_at}
 use Rattle.number_fixed.proofs.BigEndian.{fixed_within}
 use borrow.Author.Rules.{rules}
@@ -12,16 +10,16 @@ overflow_sub-end c = search (fixed_within, rules)
 
 pub returns-then-end-next : goal.returns-then-end-next
 unfolding partition_at
-returns-then-end-next c = search (reading, answers, fields, cases) depth 12
+returns-then-end-next c = search (trying, cases) depth 12
 
-pub returns-in-By : goal.returns-in-By
+pub returns-in_err-value : goal.returns-in_err-value
 unfolding partition_at
-returns-in-By c = search (reading, answers, fields, cases) depth 12
+returns-in_err-value c = said_again _ _ _ c.from_residual.ensures (search (trying, cases) depth 12)
 
-pub returns-in-Refused-read_deleted : goal.returns-in-Refused-read_deleted
+pub returns-in_err-deletion : goal.returns-in_err-deletion
 unfolding partition_at
-returns-in-Refused-read_deleted c = search (reading, answers, fields, cases) depth 12
+returns-in_err-deletion c = said_again _ _ _ c.from_residual-in_err-deletion.ensures (search (trying, told, cases) depth 12)
 
-pub returns-in-Refused : goal.returns-in-Refused
+pub returns : goal.returns
 unfolding partition_at
-returns-in-Refused c = search (reading, answers, fields, cases) depth 12
+returns c = search (trying, told, cases) depth 12

@@ -1,17 +1,16 @@
-use Rattle.common.proofs.Choose.{cases}
-use Rattle.common.proofs.Said.{reading}
-use Rattle.data_row.proofs.Said.{answers}
+use Rattle.common.proofs.Choose.{cases, told}
+use Rattle.common.proofs.Said.{trying, said_again}
 use Rattle.data_row.specs.Flags.{extended_at}
 use Rattle.data_row.proofs.flags.read_extended.Goals as goal
 
-pub returns-in-Number : goal.returns-in-Number
-unfolding extended_at
-returns-in-Number c = search (reading, answers, cases) depth 12
-
-pub returns-in-Refused : goal.returns-in-Refused
-unfolding extended_at
-returns-in-Refused c = search (reading, answers, cases) depth 12
-
 pub returns : goal.returns
 unfolding extended_at
-returns c = search (reading, answers, cases) depth 12
+returns c = search (trying, told, cases) depth 12
+
+pub returns-in_err-value : goal.returns-in_err-value
+unfolding extended_at
+returns-in_err-value c = said_again _ _ _ c.from_residual.ensures (search (trying, told, cases) depth 12)
+
+pub returns-then-f-eq1 : goal.returns-then-f-eq1
+unfolding extended_at
+returns-then-f-eq1 c = search (trying, told, cases) depth 12

@@ -1,17 +1,16 @@
 use Rattle.common.proofs.Choose.{cases}
-use Rattle.data_clustering.proofs.Said.{answers as prefixes}
-use Rattle.data_row.proofs.Said.{answers}
+use Rattle.common.proofs.Said.{trying, said_again}
 use Rattle.data_row.specs.Rows.{rest_at}
 use Rattle.data_row.proofs.rows.read_rest.Goals as goal
 
-pub returns-in-Read-read_body : goal.returns-in-Read-read_body
+pub returns-in_err-prefix : goal.returns-in_err-prefix
 unfolding rest_at
-returns-in-Read-read_body c = search (answers, prefixes, cases) depth 12
+returns-in_err-prefix c = said_again _ _ _ c.from_residual.ensures (search (trying, cases) depth 12)
 
-pub returns-in-Refused-read_body : goal.returns-in-Refused-read_body
+pub returns-in_err-body : goal.returns-in_err-body
 unfolding rest_at
-returns-in-Refused-read_body c = search (answers, prefixes, cases) depth 12
+returns-in_err-body c = said_again _ _ _ c.from_residual-in_err-body.ensures (search (trying, cases) depth 12)
 
-pub returns-in-Refused : goal.returns-in-Refused
+pub returns : goal.returns
 unfolding rest_at
-returns-in-Refused c = search (answers, prefixes, cases) depth 12
+returns c = search (trying, cases) depth 12

@@ -8,8 +8,8 @@ known-size-requires c = search (bodies, rules) depth 12
 pub overflow_add-stop : goal.overflow_add-stop
 overflow_add-stop c = search (bodies, rules) depth 12
 
-pub known-previous-requires : goal.known-previous-requires
-known-previous-requires c = search (bodies, rules) depth 12
-
 pub returns : goal.returns
 returns c = search (bodies, rules) depth 12
+
+pub known-next-requires : goal.known-next-requires
+known-next-requires c = search (bodies, rules) depth 12

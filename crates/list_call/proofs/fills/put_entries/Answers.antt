@@ -1,26 +1,13 @@
 use Rattle.call_check.proofs.Schemas.{tables}
-use Rattle.list_call.proofs.PutEntries.{storing, storing_same, storing_end_same}
-use mathlib.Core.Path.{refl}
+use Rattle.list_call.proofs.PutEntries.{storing}
 use borrow.Author.Rules.{rules}
 use Rattle.list_call.proofs.fills.put_entries.Goals as goal
 
 pub loop-value-init : goal.loop-value-init
 loop-value-init c = search (storing, tables, rules) depth 12
 
-pub read_byte-requires : goal.read_byte-requires
-read_byte-requires c = search (storing, tables, rules) depth 12
-
-pub enum_known-value : goal.enum_known-value
-enum_known-value c = search (storing, tables, rules) depth 12
-
-pub end_item-item-requires : goal.end_item-item-requires
-end_item-item-requires c = search (storing, tables, rules) depth 12
-
 pub put_record-out-requires : goal.put_record-out-requires
 put_record-out-requires c = search (storing, tables, rules) depth 12
-
-pub shape_of-d-then-value-eq1 : goal.shape_of-d-then-value-eq1
-shape_of-d-then-value-eq1 c = search (storing_end_same, refl) depth 12
 
 pub returns-then-value-eq1 : goal.returns-then-value-eq1
 returns-then-value-eq1 c = search (storing, tables, rules) depth 12
@@ -43,11 +30,5 @@ loop-value-smaller c = search (storing, tables, rules) depth 12
 pub loop-value-preserved : goal.loop-value-preserved
 loop-value-preserved c = search (storing, tables, rules) depth 12
 
-pub enum_told-1 : goal.enum_told-1
-enum_told-1 c = search (storing, tables, rules) depth 12
-
-pub shape_of-d-in-Refused : goal.shape_of-d-in-Refused
-shape_of-d-in-Refused c = search (storing_same, rules)
-
-pub returns-in-Refused : goal.returns-in-Refused
-returns-in-Refused c = search (storing, tables, rules) depth 12
+pub returns-in_default : goal.returns-in_default
+returns-in_default c = search (storing, tables, rules) depth 12

@@ -2,9 +2,6 @@ use Rattle.list_call.proofs.PutRows.{rows}
 use borrow.Author.Rules.{rules}
 use Rattle.list_call.proofs.fills.put_row.Goals as goal
 
-pub known_row-known-requires : goal.known_row-known-requires
-known_row-known-requires c = search (rows, rules) depth 12
-
 pub put_static-out-requires : goal.put_static-out-requires
 put_static-out-requires c = search (rows, rules) depth 12
 
@@ -16,3 +13,6 @@ put_plain-out-requires c = search (rows, rules) depth 12
 
 pub returns : goal.returns
 returns c = search (rows, rules) depth 12
+
+pub known_row-next-requires : goal.known_row-next-requires
+known_row-next-requires c = search (rows, rules) depth 12

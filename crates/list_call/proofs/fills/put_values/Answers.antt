@@ -11,9 +11,6 @@ overflow_add-width c = search (valuing, rules) depth 12
 pub bounds-c-column : goal.bounds-c-column
 bounds-c-column c = search (valuing, rules) depth 12
 
-pub known_clustering-known-requires : goal.known_clustering-known-requires
-known_clustering-known-requires c = search (valuing, rules) depth 12
-
 pub value_item-item-requires : goal.value_item-item-requires
 value_item-item-requires c = search (valuing, rules) depth 12
 
@@ -22,9 +19,6 @@ put_record-out-requires c = search (valuing, rules) depth 12
 
 pub overflow_add-column : goal.overflow_add-column
 overflow_add-column c = search (valuing, rules) depth 12
-
-pub overflow_add-i : goal.overflow_add-i
-overflow_add-i c = search (valuing, rules) depth 12
 
 pub loop-i-smaller : goal.loop-i-smaller
 loop-i-smaller c = search (valuing, rules) depth 12
@@ -37,3 +31,6 @@ shape_of-d c = search (valuing_same, rules)
 
 pub returns : goal.returns
 returns c = search (valuing, rules) depth 12
+
+pub known_clustering-next-requires : goal.known_clustering-next-requires
+known_clustering-next-requires c = search (valuing, rules) depth 12

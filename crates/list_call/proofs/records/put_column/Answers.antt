@@ -5,7 +5,7 @@ use Rattle.list_call.proofs.records.put_column.Goals as goal
 
 pub put_in-a-requires : goal.put_in-a-requires
 unfolding column_bytes
-put_in-a-requires c = search (room_left, room_right, puts_then, puts_same, rules) depth 12
+put_in-a-requires c = search (room_left, room_right, rules) depth 12
 
 pub put_in-requires : goal.put_in-requires
 unfolding column_bytes
@@ -13,4 +13,4 @@ put_in-requires c = search (room_left, room_right, puts_then, puts_same, rules) 
 
 pub returns : goal.returns
 unfolding column_bytes
-returns c = search (room_left, room_right, puts_then, puts_same, rules) depth 12
+returns c = search (puts_then, rules) depth 12

@@ -5,7 +5,7 @@ use Rattle.list_call.proofs.records.put_tail.Goals as goal
 
 pub put_second-a-requires : goal.put_second-a-requires
 unfolding tail_bytes
-put_second-a-requires c = search (room_left, room_right, puts_then, puts_same, rules) depth 12
+put_second-a-requires c = search (room_left, room_right, rules) depth 12
 
 pub put_place-requires : goal.put_place-requires
 unfolding tail_bytes
@@ -13,4 +13,4 @@ put_place-requires c = search (room_left, room_right, puts_then, puts_same, rule
 
 pub returns : goal.returns
 unfolding tail_bytes
-returns c = search (room_left, room_right, puts_then, puts_same, rules) depth 12
+returns c = search (puts_then, rules) depth 12

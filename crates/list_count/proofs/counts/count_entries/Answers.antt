@@ -1,61 +1,29 @@
+use Rattle.common.proofs.Said.{said_again, tried, failed}
 use Rattle.call_check.proofs.Schemas.{tables}
 use Rattle.list_count.proofs.Entries.{entering}
 use borrow.Author.Rules.{rules}
 use Rattle.list_count.proofs.counts.count_entries.Goals as goal
 
-pub loop-value-init : goal.loop-value-init
-loop-value-init c = search (entering, tables, rules) depth 12
+pub returns-in_err-after : goal.returns-in_err-after
+returns-in_err-after c = said_again _ _ _ c.from_residual-in_err-after.ensures (search (tried _ _ _ c.branch-value.ensures c.in_ok-value.is, failed _ _ _ c.branch-after.ensures c.in_err-after.is, entering, tables, rules) depth 12)
 
-pub read_byte-requires : goal.read_byte-requires
-read_byte-requires c = search (entering, tables, rules) depth 12
-
-pub enum_known-value : goal.enum_known-value
-enum_known-value c = search (entering, tables, rules) depth 12
-
-pub count_end-requires : goal.count_end-requires
-count_end-requires c = search (entering, tables, rules) depth 12
-
-pub returns-then-value-eq1 : goal.returns-then-value-eq1
-returns-then-value-eq1 c = search (entering, tables, rules) depth 12
-
-pub count_marker-requires : goal.count_marker-requires
-count_marker-requires c = search (entering, tables, rules) depth 12
-
-pub enum_known-after : goal.enum_known-after
-enum_known-after c = search (entering, tables, rules) depth 12
-
-pub loop-value-smaller-in-To : goal.loop-value-smaller-in-To
-loop-value-smaller-in-To c = search (entering, tables, rules) depth 12
-
-pub loop-value-preserved-in-To : goal.loop-value-preserved-in-To
-loop-value-preserved-in-To c = search (entering, tables, rules) depth 12
-
-pub enum_known-fault : goal.enum_known-fault
-enum_known-fault c = search (entering, tables, rules) depth 12
-
-pub returns-in-Refused-count_marker : goal.returns-in-Refused-count_marker
-returns-in-Refused-count_marker c = search (entering, tables, rules) depth 12
-
-pub count_row-requires : goal.count_row-requires
-count_row-requires c = search (entering, tables, rules) depth 12
-
-pub enum_known-more : goal.enum_known-more
-enum_known-more c = search (entering, tables, rules) depth 12
+pub returns-in_err-more : goal.returns-in_err-more
+returns-in_err-more c = said_again _ _ _ c.from_residual-in_err-more.ensures (search (tried _ _ _ c.branch-value.ensures c.in_ok-value.is, failed _ _ _ c.branch-more.ensures c.in_err-more.is, entering, tables, rules) depth 12)
 
 pub loop-value-smaller : goal.loop-value-smaller
-loop-value-smaller c = search (entering, tables, rules) depth 12
+loop-value-smaller c = search (tried _ _ _ c.branch-value.ensures c.in_ok-value.is, tried _ _ _ c.branch-more.ensures c.in_ok-more.is, entering, tables, rules) depth 12
+
+pub loop-value-smaller-then-value-eq2 : goal.loop-value-smaller-then-value-eq2
+loop-value-smaller-then-value-eq2 c = search (tried _ _ _ c.branch-value.ensures c.in_ok-value.is, tried _ _ _ c.branch-after.ensures c.in_ok-after.is, entering, tables, rules) depth 12
+
+pub returns-then-value-eq1 : goal.returns-then-value-eq1
+returns-then-value-eq1 c = search (tried _ _ _ c.branch-value.ensures c.in_ok-value.is, entering, tables, rules) depth 12
+
+pub returns-in_err-value : goal.returns-in_err-value
+returns-in_err-value c = said_again _ _ _ c.from_residual.ensures (search (failed _ _ _ c.branch-value.ensures c.in_err-value.is, entering, tables, rules) depth 12)
 
 pub loop-value-preserved : goal.loop-value-preserved
-loop-value-preserved c = search (entering, tables, rules) depth 12
+loop-value-preserved c = search (tried _ _ _ c.branch-value.ensures c.in_ok-value.is, tried _ _ _ c.branch-more.ensures c.in_ok-more.is, entering, tables, rules) depth 12
 
-pub enum_known-fault-in-Refused-count_row : goal.enum_known-fault-in-Refused-count_row
-enum_known-fault-in-Refused-count_row c = search (entering, tables, rules) depth 12
-
-pub returns-in-Refused-count_row : goal.returns-in-Refused-count_row
-returns-in-Refused-count_row c = search (entering, tables, rules) depth 12
-
-pub enum_known-fault-in-Refused-read_byte : goal.enum_known-fault-in-Refused-read_byte
-enum_known-fault-in-Refused-read_byte c = search (entering, tables, rules) depth 12
-
-pub returns-in-Refused : goal.returns-in-Refused
-returns-in-Refused c = search (entering, tables, rules) depth 12
+pub loop-value-preserved-then-value-eq2 : goal.loop-value-preserved-then-value-eq2
+loop-value-preserved-then-value-eq2 c = search (tried _ _ _ c.branch-value.ensures c.in_ok-value.is, tried _ _ _ c.branch-after.ensures c.in_ok-after.is, entering, tables, rules) depth 12

@@ -23,17 +23,14 @@ overflow_add-from c = search (running, rules)
 pub is_of-requires : goal.is_of-requires
 is_of-requires c = search (running, rules)
 
-pub overflow_add-n : goal.overflow_add-n
-overflow_add-n c = search (running, rules)
-
 pub loop-n-smaller : goal.loop-n-smaller
 loop-n-smaller c = search (running, rules)
 
 pub loop-n-preserved : goal.loop-n-preserved
 loop-n-preserved c = search (running, rules)
 
-pub returns-else-is_of : goal.returns-else-is_of
-returns-else-is_of c = search (running, rules)
-
 pub returns : goal.returns
 returns c = search (running, rules)
+
+pub returns-then-not-is_of : goal.returns-then-not-is_of
+returns-then-not-is_of c = search (running, rules)

@@ -4,6 +4,3 @@ use Rattle.schema_check.proofs.records.run.Given as goal
 
 abbrev pub invariant-loop-n : goal.invariant-loop-n
 invariant-loop-n l = Running l.limit l.role l.s l.from l.most l.n
-
-abbrev pub decreases-loop-n : goal.decreases-loop-n
-decreases-loop-n l = l.most - l.n

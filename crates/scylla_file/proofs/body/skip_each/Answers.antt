@@ -1,31 +1,16 @@
-use Rattle.scylla_sharding.proofs.Answers.{passings}
+use Rattle.common.proofs.Said.{tried, failed, place_ok, place_again, place_got, place_not}
 use Rattle.scylla_sharding.proofs.Loops.{repeating}
 use borrow.Author.Rules.{rules}
 use Rattle.scylla_file.proofs.body.skip_each.Goals as goal
 
-pub loop-more-init : goal.loop-more-init
-loop-more-init c = search (repeating, passings, rules)
+pub loop-init : goal.loop-init
+loop-init c = search (repeating, rules)
 
-pub skip_attribute-requires : goal.skip_attribute-requires
-skip_attribute-requires c = search (repeating, passings, rules)
+pub returns-in_err-p : goal.returns-in_err-p
+returns-in_err-p c = place_again _ _ _ c.from_residual.ensures (search (repeating, place_not, failed _ _ _ c.branch-p.ensures c.in_err-p.is, rules))
 
-pub enum_known-next : goal.enum_known-next
-enum_known-next c = search (repeating, passings, rules)
-
-pub overflow_sub-more : goal.overflow_sub-more
-overflow_sub-more c = search (repeating, passings, rules)
-
-pub loop-more-smaller : goal.loop-more-smaller
-loop-more-smaller c = search (repeating, passings, rules)
-
-pub loop-more-preserved : goal.loop-more-preserved
-loop-more-preserved c = search (repeating, passings, rules)
-
-pub enum_known-fault : goal.enum_known-fault
-enum_known-fault c = search (repeating, passings, rules)
-
-pub returns-in-Refused : goal.returns-in-Refused
-returns-in-Refused c = search (repeating, passings, rules)
+pub loop-preserved : goal.loop-preserved
+loop-preserved c = search (repeating, place_got, tried _ _ _ c.branch-p.ensures c.in_ok-p.is, rules)
 
 pub returns : goal.returns
-returns c = search (repeating, passings, rules)
+returns c = search (repeating, place_ok, rules)

@@ -1,17 +1,16 @@
-use Rattle.common.proofs.Choose.{cases}
-use Rattle.common.proofs.Said.{reading}
-use Rattle.scylla_sharding.proofs.Answers.{answers}
+use Rattle.common.proofs.Choose.{cases, told}
+use Rattle.common.proofs.Said.{trying, said_again}
 use Rattle.scylla_file.specs.Components.{tag_at}
 use Rattle.scylla_file.proofs.component.read_tag.Goals as goal
 
+pub returns-in_err-tag : goal.returns-in_err-tag
+unfolding tag_at
+returns-in_err-tag c = said_again _ _ _ c.from_residual.ensures (search (trying, cases) depth 12)
+
 pub returns-then-is_seen : goal.returns-then-is_seen
 unfolding tag_at
-returns-then-is_seen c = search (answers, reading, cases) depth 12
+returns-then-is_seen c = search (trying, told, cases) depth 12
 
-pub returns-else-is_seen : goal.returns-else-is_seen
+pub returns : goal.returns
 unfolding tag_at
-returns-else-is_seen c = search (answers, reading, cases) depth 12
-
-pub returns-in-Refused : goal.returns-in-Refused
-unfolding tag_at
-returns-in-Refused c = search (answers, reading, cases) depth 12
+returns c = search (trying, told, cases) depth 12

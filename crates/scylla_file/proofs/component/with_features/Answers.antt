@@ -1,14 +1,12 @@
 use Rattle.common.proofs.Choose.{cases}
-use Rattle.common.proofs.Said.{reading}
-use Rattle.scylla_sharding.proofs.Answers.{answers}
-use Rattle.scylla_file.proofs.Answers.{findings}
+use Rattle.common.proofs.Said.{trying, said_again}
 use Rattle.scylla_file.specs.Components.{with_features}
 use Rattle.scylla_file.proofs.component.with_features.Goals as goal
 
-pub returns-in-Number : goal.returns-in-Number
+pub returns-in_err-bits : goal.returns-in_err-bits
 unfolding with_features
-returns-in-Number c = search (findings, answers, reading, cases) depth 12
+returns-in_err-bits c = said_again _ _ _ c.from_residual.ensures (search (trying, cases) depth 12)
 
-pub returns-in-Refused : goal.returns-in-Refused
+pub returns : goal.returns
 unfolding with_features
-returns-in-Refused c = search (findings, answers, reading, cases) depth 12
+returns c = search (trying, cases) depth 12

@@ -1,14 +1,12 @@
 use Rattle.common.proofs.Choose.{cases}
-use Rattle.common.proofs.Said.{reading}
-use Rattle.scylla_sharding.proofs.Answers.{answers}
-use Rattle.scylla_file.proofs.Answers.{findings}
+use Rattle.common.proofs.Said.{trying, said_again}
 use Rattle.scylla_file.specs.Components.{with_run}
 use Rattle.scylla_file.proofs.component.with_run.Goals as goal
 
-pub returns-in-Read : goal.returns-in-Read
+pub returns-in_err-uuid : goal.returns-in_err-uuid
 unfolding with_run
-returns-in-Read c = search (findings, answers, reading, cases) depth 12
+returns-in_err-uuid c = said_again _ _ _ c.from_residual.ensures (search (trying, cases) depth 12)
 
-pub returns-in-Refused : goal.returns-in-Refused
+pub returns : goal.returns
 unfolding with_run
-returns-in-Refused c = search (findings, answers, reading, cases) depth 12
+returns c = search (trying, cases) depth 12

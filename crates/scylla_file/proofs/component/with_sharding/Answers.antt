@@ -1,14 +1,12 @@
 use Rattle.common.proofs.Choose.{cases}
-use Rattle.common.proofs.Said.{reading}
-use Rattle.scylla_sharding.proofs.Answers.{answers}
-use Rattle.scylla_file.proofs.Answers.{findings}
+use Rattle.common.proofs.Said.{trying, said_again, places}
 use Rattle.scylla_file.specs.Components.{with_sharding}
 use Rattle.scylla_file.proofs.component.with_sharding.Goals as goal
 
-pub returns-in-To : goal.returns-in-To
+pub returns-in_err-next : goal.returns-in_err-next
 unfolding with_sharding
-returns-in-To c = search (findings, answers, reading, cases) depth 12
+returns-in_err-next c = said_again _ _ _ c.from_residual.ensures (search (places, cases) depth 12)
 
-pub returns-in-Refused : goal.returns-in-Refused
+pub returns : goal.returns
 unfolding with_sharding
-returns-in-Refused c = search (findings, answers, reading, cases) depth 12
+returns c = search (places, trying, cases) depth 12

@@ -1,17 +1,16 @@
 use Rattle.common.proofs.Choose.{cases}
-use Rattle.common.proofs.Said.{reading}
-use Rattle.scylla_sharding.proofs.Answers.{answers}
+use Rattle.common.proofs.Said.{trying, said_again}
 use Rattle.scylla_sharding.specs.Bounds.{bound_at}
 use Rattle.scylla_sharding.proofs.bound.read.Goals as goal
 
-pub returns-in-Number-read_token : goal.returns-in-Number-read_token
+pub returns-in_err-exclusive : goal.returns-in_err-exclusive
 unfolding bound_at
-returns-in-Number-read_token c = search (answers, reading, cases) depth 12
+returns-in_err-exclusive c = said_again _ _ _ c.from_residual.ensures (search (trying, cases) depth 12)
 
-pub returns-in-Refused-read_token : goal.returns-in-Refused-read_token
+pub returns-in_err-token : goal.returns-in_err-token
 unfolding bound_at
-returns-in-Refused-read_token c = search (answers, reading, cases) depth 12
+returns-in_err-token c = said_again _ _ _ c.from_residual-in_err-token.ensures (search (trying, cases) depth 12)
 
-pub returns-in-Refused : goal.returns-in-Refused
+pub returns : goal.returns
 unfolding bound_at
-returns-in-Refused c = search (answers, reading, cases) depth 12
+returns c = search (trying, cases) depth 12

@@ -1,21 +1,21 @@
 use Rattle.common.proofs.Choose.{cases}
-use Rattle.common.proofs.Said.{reading}
+use Rattle.common.proofs.Said.{trying, said_again}
 use Rattle.scylla_sharding.proofs.Answers.{given}
 use Rattle.scylla_sharding.specs.Bounds.{token_at}
 use Rattle.scylla_sharding.proofs.bound.read_token.Goals as goal
 
-pub returns-in-Number-read : goal.returns-in-Number-read
+pub returns-in_err-len : goal.returns-in_err-len
 unfolding token_at
-returns-in-Number-read c = search (given, reading, cases) depth 12
+returns-in_err-len c = said_again _ _ _ c.from_residual.ensures (search (given, trying, cases) depth 12)
 
-pub returns-in-Refused-read : goal.returns-in-Refused-read
+pub returns-in_err-bits : goal.returns-in_err-bits
 unfolding token_at
-returns-in-Refused-read c = search (given, reading, cases) depth 12
+returns-in_err-bits c = said_again _ _ _ c.from_residual-in_err-bits.ensures (search (given, trying, cases) depth 12)
 
-pub returns-else-value-eq8 : goal.returns-else-value-eq8
+pub returns-then-len-eq8 : goal.returns-then-len-eq8
 unfolding token_at
-returns-else-value-eq8 c = search (given, reading, cases) depth 12
+returns-then-len-eq8 c = search (given, trying, cases) depth 12
 
-pub returns-in-Refused : goal.returns-in-Refused
+pub returns : goal.returns
 unfolding token_at
-returns-in-Refused c = search (given, reading, cases) depth 12
+returns c = search (given, trying, cases) depth 12

@@ -2,8 +2,8 @@ use Rattle.sstable.proofs.Statistics.{reads_statistics}
 use borrow.Author.Rules.{rules}
 use Rattle.sstable.proofs.statistics_db.read_words.Goals as goal
 
-pub returns-in-Read : goal.returns-in-Read
-returns-in-Read c = search (reads_statistics, rules)
+pub returns-in-Ok : goal.returns-in-Ok
+returns-in-Ok c = search (reads_statistics, rules)
 
-pub returns-in-Refused : goal.returns-in-Refused
-returns-in-Refused c = search (reads_statistics, rules)
+pub returns-in-Err : goal.returns-in-Err
+returns-in-Err c = search (reads_statistics, rules)

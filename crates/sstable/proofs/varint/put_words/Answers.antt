@@ -7,7 +7,7 @@ pub returns-then-out-gt1073741824 : goal.returns-then-out-gt1073741824
 returns-then-out-gt1073741824 c = search (puts_varint, puts_same, rules)
 
 pub returns-then-out-len : goal.returns-then-out-len
-returns-then-out-len c = search (puts_varint, puts_same, rules)
+returns-then-out-len c = search (puts_varint, rules)
 
 pub returns : goal.returns
-returns c = search (puts_varint, puts_same, rules)
+returns c = search (puts_varint, rules)

@@ -1,30 +1,29 @@
 use Rattle.common.proofs.Choose.{cases}
-use Rattle.common.proofs.Said.{reading}
-use Rattle.stats_contents.proofs.Said.{answers}
+use Rattle.common.proofs.Said.{trying, said_again}
 use Rattle.stats_contents.proofs.Pairs.{count_small}
 use Rattle.stats_contents.specs.Contents.{contents_at, present}
 use borrow.Author.Rules.{rules}
 use Rattle.stats_contents.proofs.contents.read.Goals as goal
 
-pub pairs-listed-requires : goal.pairs-listed-requires
-pairs-listed-requires c = search (count_small, rules)
+pub pairs-requires : goal.pairs-requires
+pairs-requires c = search (count_small, rules)
+
+pub returns-in_err-n : goal.returns-in_err-n
+unfolding contents_at present
+returns-in_err-n c = said_again _ _ _ c.from_residual.ensures (search (trying, cases) depth 12)
+
+pub returns-in_err-contents : goal.returns-in_err-contents
+unfolding contents_at present
+returns-in_err-contents c = said_again _ _ _ c.from_residual-in_err-contents.ensures (search (trying, cases) depth 12)
 
 pub returns-then-contents-eq0 : goal.returns-then-contents-eq0
 unfolding contents_at present
-returns-then-contents-eq0 c = search (reading, answers, cases, count_small, rules) depth 12
+returns-then-contents-eq0 c = search (trying, cases) depth 12 fits 4000
 
 pub returns-then-contents-eq0-2 : goal.returns-then-contents-eq0-2
 unfolding contents_at present
-returns-then-contents-eq0-2 c = search (reading, answers, cases, count_small, rules) depth 12
+returns-then-contents-eq0-2 c = search (trying, cases) depth 12 fits 4000
 
-pub returns-else-contents-eq0-2 : goal.returns-else-contents-eq0-2
+pub returns : goal.returns
 unfolding contents_at present
-returns-else-contents-eq0-2 c = search (reading, answers, cases, count_small, rules) depth 12
-
-pub returns-in-Refused-listed : goal.returns-in-Refused-listed
-unfolding contents_at present
-returns-in-Refused-listed c = search (reading, answers, cases, count_small, rules) depth 12
-
-pub returns-in-Refused : goal.returns-in-Refused
-unfolding contents_at present
-returns-in-Refused c = search (reading, answers, cases, count_small, rules) depth 12
+returns c = search (trying, cases) depth 12 fits 4000

@@ -1,21 +1,20 @@
 use Rattle.common.proofs.Choose.{cases}
-use Rattle.common.proofs.Said.{reading}
-use Rattle.stats_file.proofs.Said.{answers}
+use Rattle.common.proofs.Said.{trying, said_again}
 use Rattle.stats_file.specs.Bases.{bases_at}
 use Rattle.stats_file.proofs.bases.read.Goals as goal
 
-pub returns-in-Number-ttl : goal.returns-in-Number-ttl
+pub returns-in_err-timestamp : goal.returns-in_err-timestamp
 unfolding bases_at
-returns-in-Number-ttl c = search (reading, answers, cases) depth 12
+returns-in_err-timestamp c = said_again _ _ _ c.from_residual.ensures (search (trying, cases) depth 12)
 
-pub returns-in-Refused-ttl : goal.returns-in-Refused-ttl
+pub returns-in_err-local : goal.returns-in_err-local
 unfolding bases_at
-returns-in-Refused-ttl c = search (reading, answers, cases) depth 12
+returns-in_err-local c = said_again _ _ _ c.from_residual-in_err-local.ensures (search (trying, cases) depth 12)
 
-pub returns-in-Refused-local : goal.returns-in-Refused-local
+pub returns-in_err-ttl : goal.returns-in_err-ttl
 unfolding bases_at
-returns-in-Refused-local c = search (reading, answers, cases) depth 12
+returns-in_err-ttl c = said_again _ _ _ c.from_residual-in_err-ttl.ensures (search (trying, cases) depth 12)
 
-pub returns-in-Refused : goal.returns-in-Refused
+pub returns : goal.returns
 unfolding bases_at
-returns-in-Refused c = search (reading, answers, cases) depth 12
+returns c = search (trying, cases) depth 12

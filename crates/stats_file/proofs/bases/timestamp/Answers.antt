@@ -1,13 +1,13 @@
 use Rattle.common.proofs.Choose.{cases}
-use Rattle.common.proofs.Said.{reading}
+use Rattle.common.proofs.Said.{trying, said_again}
 use Rattle.stats_file.specs.Bases.{timestamp_at}
 use Rattle.stats_file.proofs.Times.{biased_sum}
 use Rattle.stats_file.proofs.bases.timestamp.Goals as goal
 
-pub returns-in-Number : goal.returns-in-Number
+pub returns-in_err-value : goal.returns-in_err-value
 unfolding timestamp_at
-returns-in-Number c = search (biased_sum, reading, cases) depth 12
+returns-in_err-value c = said_again _ _ _ c.from_residual.ensures (search (trying, cases) depth 12)
 
-pub returns-in-Refused : goal.returns-in-Refused
+pub returns : goal.returns
 unfolding timestamp_at
-returns-in-Refused c = search (biased_sum, reading, cases) depth 12
+returns c = search (biased_sum, trying, cases) depth 12

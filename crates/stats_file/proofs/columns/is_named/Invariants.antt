@@ -5,6 +5,3 @@ use Rattle.stats_file.proofs.columns.is_named.Given as goal
 
 abbrev pub invariant-loop-i : goal.invariant-loop-i
 invariant-loop-i l = Seeking l.s (shown l.s l.start l.len) l.d l.k l.i
-
-abbrev pub decreases-loop-i : goal.decreases-loop-i
-decreases-loop-i l = l.k - l.i

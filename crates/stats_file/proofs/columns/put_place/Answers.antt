@@ -5,7 +5,7 @@ use Rattle.stats_file.proofs.columns.put_place.Goals as goal
 
 pub put_in-next-requires : goal.put_in-next-requires
 unfolding place_of
-put_in-next-requires c = search (room_left, room_right, puts_then, puts_same, rules)
+put_in-next-requires c = search (room_left, room_right, rules)
 
 pub put_in-requires : goal.put_in-requires
 unfolding place_of
@@ -13,4 +13,4 @@ put_in-requires c = search (room_left, room_right, puts_then, puts_same, rules)
 
 pub returns : goal.returns
 unfolding place_of
-returns c = search (room_left, room_right, puts_then, puts_same, rules)
+returns c = search (puts_then, rules)

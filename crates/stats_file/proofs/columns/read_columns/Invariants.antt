@@ -4,6 +4,3 @@ use Rattle.stats_file.proofs.columns.read_columns.Given as goal
 
 abbrev pub invariant-loop-i : goal.invariant-loop-i
 invariant-loop-i l = Filling l.n l.role l.s l.at l.end l.initial.d l.first l.d l.p l.i
-
-abbrev pub decreases-loop-i : goal.decreases-loop-i
-decreases-loop-i l = l.n - l.i

@@ -1,34 +1,47 @@
+use Rattle.common.proofs.Said.{again, tried, failed}
 use Rattle.std.proofs.Common.{arith, rules}
-use Rattle.stats_file.proofs.Parts.{groupings, groups_same, first_room, second_fits, second_kept, second_room, third_fits, third_kept, third_room}
+use Rattle.stats_file.proofs.Parts.{groupings, first_room, second_fits, second_kept, second_room, third_fits, third_kept, third_room}
 use Rattle.stats_file.proofs.columns.read_groups.Goals as goal
 
 pub read_group-requires : goal.read_group-requires
 read_group-requires c = search (first_room, rules)
 
 pub overflow_add-second : goal.overflow_add-second
-overflow_add-second c = search second_fits
-
-pub read_group-requires-in-Number : goal.read_group-requires-in-Number
-read_group-requires-in-Number c = search (second_kept, second_room, rules)
+overflow_add-second c = search (second_fits, tried _ _ _ c.branch-clustering.ensures c.in_ok-clustering.is)
 
 pub overflow_add-third : goal.overflow_add-third
-overflow_add-third c = search third_fits
+overflow_add-third c =
+    let e = tried _ _ _ c.branch-clustering.ensures c.in_ok-clustering.is in
+    search (third_fits, e, tried _ _ _ c.branch-statics.ensures c.in_ok-statics.is)
 
-pub read_group-requires-in-Number-read_group : goal.read_group-requires-in-Number-read_group
-read_group-requires-in-Number-read_group c = (
-  third_kept _ _ _ _ _ _ c.read_group.ensures _ _ c.in-Number.is _ _ c.read_group-in-Number.ensures _ _ c.in-Number-read_group.is,
-  third_room _ _ _ _ _ _ c.read_group.ensures _ _ c.in-Number.is _ _ c.read_group-in-Number.ensures _ _ c.in-Number-read_group.is (omega arith),
-  omega arith,
-)
+pub returns-in_err-clustering : goal.returns-in_err-clustering
+returns-in_err-clustering c = rw (again _ _ c.from_residual.ensures) (search (groupings, failed _ _ _ c.branch-clustering.ensures c.in_err-clustering.is))
 
-pub returns-in-Number-read_group-2 : goal.returns-in-Number-read_group-2
-returns-in-Number-read_group-2 c = search (groupings, groups_same, rules)
+pub returns-in_err-statics : goal.returns-in_err-statics
+returns-in_err-statics c =
+    let e = tried _ _ _ c.branch-clustering.ensures c.in_ok-clustering.is in
+    rw (again _ _ c.from_residual-in_err-statics.ensures) (search (groupings, e, failed _ _ _ c.branch-statics.ensures c.in_err-statics.is))
 
-pub returns-in-Refused-read_group-2 : goal.returns-in-Refused-read_group-2
-returns-in-Refused-read_group-2 c = search (groupings, groups_same, rules)
+pub returns-in_err-regulars : goal.returns-in_err-regulars
+returns-in_err-regulars c =
+    let e = tried _ _ _ c.branch-clustering.ensures c.in_ok-clustering.is in
+    let f = tried _ _ _ c.branch-statics.ensures c.in_ok-statics.is in
+    rw (again _ _ c.from_residual-in_err-regulars.ensures) (search (groupings, e, f, failed _ _ _ c.branch-regulars.ensures c.in_err-regulars.is))
 
-pub returns-in-Refused-read_group : goal.returns-in-Refused-read_group
-returns-in-Refused-read_group c = search (groupings, groups_same, rules)
+pub returns : goal.returns
+returns c =
+    let e = tried _ _ _ c.branch-clustering.ensures c.in_ok-clustering.is in
+    let f = tried _ _ _ c.branch-statics.ensures c.in_ok-statics.is in
+    search (groupings, e, f, tried _ _ _ c.branch-regulars.ensures c.in_ok-regulars.is)
 
-pub returns-in-Refused : goal.returns-in-Refused
-returns-in-Refused c = search (groupings, groups_same, rules)
+pub read_group-requires-2 : goal.read_group-requires-2
+read_group-requires-2 c = search (second_kept, second_room, tried _ _ _ c.branch-clustering.ensures c.in_ok-clustering.is, rules)
+
+pub read_group-requires-3 : goal.read_group-requires-3
+read_group-requires-3 c =
+    let e = tried _ _ _ c.branch-clustering.ensures c.in_ok-clustering.is in
+    let f = tried _ _ _ c.branch-statics.ensures c.in_ok-statics.is in (
+      third_kept _ _ _ _ _ _ c.read_group.ensures _ _ e _ _ c.read_group-2.ensures _ _ f,
+      third_room _ _ _ _ _ _ c.read_group.ensures _ _ e _ _ c.read_group-2.ensures _ _ f (omega arith),
+      omega arith,
+    )

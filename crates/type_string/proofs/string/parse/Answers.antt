@@ -5,7 +5,7 @@ use Rattle.type_string.proofs.string.parse.Goals as goal
 
 pub returns-then-line-eq0 : goal.returns-then-line-eq0
 unfolding type_of line_with
-returns-then-line-eq0 c = search (told, answers, cases) depth 12
+returns-then-line-eq0 c = search (answers, cases) depth 12
 
 pub returns-then-line-ne-REVERSED : goal.returns-then-line-ne-REVERSED
 unfolding type_of line_with

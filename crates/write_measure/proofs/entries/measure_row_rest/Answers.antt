@@ -1,19 +1,20 @@
+use Rattle.common.proofs.Said.{said_again, tried, failed}
 use Rattle.write_measure.proofs.Rows.{rows}
 use Rattle.call_check.proofs.Schemas.{tables}
 use borrow.Author.Rules.{rules}
 use Rattle.write_measure.proofs.entries.measure_row_rest.Goals as goal
 
 pub measure_cells-requires : goal.measure_cells-requires
-measure_cells-requires c = search (rows, tables, rules) depth 12
+measure_cells-requires c = search (tried _ _ _ c.branch-count.ensures c.in_ok-count.is, rows, tables, rules) depth 12
 
 pub row_len-size-requires : goal.row_len-size-requires
-row_len-size-requires c = search (rows, tables, rules) depth 12
+row_len-size-requires c = search (tried _ _ _ c.branch-count.ensures c.in_ok-count.is, tried _ _ _ c.branch-missing.ensures c.in_ok-missing.is, rows, tables, rules) depth 12
 
-pub returns-in-To-measure_cells : goal.returns-in-To-measure_cells
-returns-in-To-measure_cells c = search (rows, tables, rules) depth 12
+pub returns-in_err-count : goal.returns-in_err-count
+returns-in_err-count c = said_again _ _ _ c.from_residual.ensures (search (failed _ _ _ c.branch-count.ensures c.in_err-count.is, rows, tables, rules) depth 12)
 
-pub returns-in-Refused-measure_cells : goal.returns-in-Refused-measure_cells
-returns-in-Refused-measure_cells c = search (rows, tables, rules) depth 12
+pub returns-in_err-missing : goal.returns-in_err-missing
+returns-in_err-missing c = said_again _ _ _ c.from_residual-in_err-missing.ensures (search (tried _ _ _ c.branch-count.ensures c.in_ok-count.is, failed _ _ _ c.branch-missing.ensures c.in_err-missing.is, rows, tables, rules) depth 12)
 
-pub returns-in-Refused : goal.returns-in-Refused
-returns-in-Refused c = search (rows, tables, rules) depth 12
+pub returns : goal.returns
+returns c = search (tried _ _ _ c.branch-count.ensures c.in_ok-count.is, tried _ _ _ c.branch-missing.ensures c.in_ok-missing.is, rows, tables, rules) depth 12

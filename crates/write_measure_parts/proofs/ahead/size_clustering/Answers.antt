@@ -38,12 +38,6 @@ overflow_add-p c = search (sizing, rules) depth 12
 pub overflow_add-column : goal.overflow_add-column
 overflow_add-column c = search (sizing, rules) depth 12
 
-pub overflow_add-i : goal.overflow_add-i
-overflow_add-i c = search (sizing, rules) depth 12
-
-pub loop-i-smaller : goal.loop-i-smaller
-loop-i-smaller c = search (sizing, rules) depth 12
-
 pub loop-i-preserved : goal.loop-i-preserved
 loop-i-preserved c = valued_more _ _ _ _ _ _ _ _ _ _ _ (search rules) (search rules) _ c.is_over.ensures (search rules) _ c.span_at-v.ensures _ _ c.empty_bit-header.ensures c.value_len-size.ensures.0
 

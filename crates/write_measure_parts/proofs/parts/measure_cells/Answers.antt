@@ -1,3 +1,4 @@
+use Rattle.common.proofs.Said.{said_again, tried}
 use Rattle.write_measure_parts.proofs.Cells.{celling}
 use borrow.Author.Rules.{rules}
 use Rattle.write_measure_parts.proofs.parts.measure_cells.Goals as goal
@@ -41,9 +42,6 @@ bounds-c-base c = search (celling, rules) depth 12
 pub read_cell-requires : goal.read_cell-requires
 read_cell-requires c = search (celling, rules) depth 12
 
-pub enum_known-item : goal.enum_known-item
-enum_known-item c = search (celling, rules) depth 12
-
 pub columns_from-missing-requires : goal.columns_from-missing-requires
 columns_from-missing-requires c = search (celling, rules) depth 12
 
@@ -53,23 +51,20 @@ overflow_add-missing c = search (celling, rules) depth 12
 pub cell_of-cell-requires : goal.cell_of-cell-requires
 cell_of-cell-requires c = search (celling, rules) depth 12
 
-pub cell_len-size-requires : goal.cell_len-size-requires
-cell_len-size-requires c = search (celling, rules) depth 12
-
 pub overflow_add-size : goal.overflow_add-size
 overflow_add-size c = search (celling, rules) depth 12
 
 pub overflow_add-i : goal.overflow_add-i
 overflow_add-i c = search (celling, rules) depth 12
 
-pub loop-i-smaller : goal.loop-i-smaller
-loop-i-smaller c = search (celling, rules) depth 12
-
 pub loop-i-preserved : goal.loop-i-preserved
 loop-i-preserved c = search (celling, rules) depth 12
 
-pub enum_known-fault : goal.enum_known-fault
-enum_known-fault c = search (celling, rules) depth 12
+pub returns-in_err-item : goal.returns-in_err-item
+returns-in_err-item c = said_again _ _ _ c.from_residual.ensures (search (celling, rules) depth 12)
 
-pub returns-in-Refused : goal.returns-in-Refused
-returns-in-Refused c = search (celling, rules) depth 12
+pub loop-i-smaller : goal.loop-i-smaller
+loop-i-smaller c = search (tried _ _ _ c.branch-item.ensures c.in_ok-item.is, celling, rules) depth 12
+
+pub cell_len-size-requires : goal.cell_len-size-requires
+cell_len-size-requires c = search (tried _ _ _ c.branch-item.ensures c.in_ok-item.is, celling, rules) depth 12

@@ -1,3 +1,4 @@
+use Rattle.common.proofs.Said.{said_again, tried}
 use Rattle.write_measure_parts.proofs.Values.{valuing}
 use borrow.Author.Rules.{rules}
 use Rattle.write_measure_parts.proofs.parts.measure_clustering.Goals as goal
@@ -20,17 +21,8 @@ bounds-c-column c = search (valuing, rules) depth 12
 pub read_value-requires : goal.read_value-requires
 read_value-requires c = search (valuing, rules) depth 12
 
-pub enum_known-item : goal.enum_known-item
-enum_known-item c = search (valuing, rules) depth 12
-
 pub empty_bit-header-requires : goal.empty_bit-header-requires
 empty_bit-header-requires c = search (valuing, rules) depth 12
-
-pub overflow_add-header : goal.overflow_add-header
-overflow_add-header c = search (valuing, rules) depth 12
-
-pub value_len-size-requires : goal.value_len-size-requires
-value_len-size-requires c = search (valuing, rules) depth 12
 
 pub overflow_add-size : goal.overflow_add-size
 overflow_add-size c = search (valuing, rules) depth 12
@@ -38,20 +30,17 @@ overflow_add-size c = search (valuing, rules) depth 12
 pub overflow_add-column : goal.overflow_add-column
 overflow_add-column c = search (valuing, rules) depth 12
 
-pub overflow_add-i : goal.overflow_add-i
-overflow_add-i c = search (valuing, rules) depth 12
-
-pub loop-i-smaller : goal.loop-i-smaller
-loop-i-smaller c = search (valuing, rules) depth 12
-
 pub loop-i-preserved : goal.loop-i-preserved
 loop-i-preserved c = search (valuing, rules) depth 12
 
-pub enum_known-fault : goal.enum_known-fault
-enum_known-fault c = search (valuing, rules) depth 12
-
-pub returns-in-Refused : goal.returns-in-Refused
-returns-in-Refused c = search (valuing, rules) depth 12
-
 pub returns : goal.returns
 returns c = search (valuing, rules) depth 12
+
+pub overflow_add-header : goal.overflow_add-header
+overflow_add-header c = search (tried _ _ _ c.branch-item.ensures c.in_ok-item.is, valuing, rules) depth 12
+
+pub value_len-size-requires : goal.value_len-size-requires
+value_len-size-requires c = search (tried _ _ _ c.branch-item.ensures c.in_ok-item.is, valuing, rules) depth 12
+
+pub returns-in_err-item : goal.returns-in_err-item
+returns-in_err-item c = said_again _ _ _ c.from_residual.ensures (search (valuing, rules) depth 12)

@@ -15,8 +15,8 @@ put_bound-out-requires c = (
   search (markers, tables, rules) depth 12,
 )
 
-pub returns-in-To : goal.returns-in-To
-returns-in-To c = search (markers, tables, rules) depth 12
+pub returns : goal.returns
+returns c = search (markers, tables, rules) depth 12
 
-pub returns-in-Refused : goal.returns-in-Refused
-returns-in-Refused c = search (markers, tables, rules) depth 12
+pub returns-in_default : goal.returns-in_default
+returns-in_default c = search (markers, tables, rules) depth 12

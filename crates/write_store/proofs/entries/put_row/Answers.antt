@@ -17,8 +17,8 @@ put_row_cells-requires c = (
   search (rows, rules) depth 12,
 )
 
-pub returns-in-To : goal.returns-in-To
-returns-in-To c = search (rows, tables, rules) depth 12
+pub returns : goal.returns
+returns c = search (rows, tables, rules) depth 12
 
-pub returns-in-Refused : goal.returns-in-Refused
-returns-in-Refused c = search (rows, tables, rules) depth 12
+pub returns-in_default : goal.returns-in_default
+returns-in_default c = search (rows, tables, rules) depth 12

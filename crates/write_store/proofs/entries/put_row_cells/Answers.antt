@@ -20,8 +20,8 @@ put_plain-out-requires c = (
   search (plains, tables, rules) depth 12,
 )
 
-pub returns-in-To : goal.returns-in-To
-returns-in-To c = search (plains, tables, rules) depth 12
+pub returns : goal.returns
+returns c = search (plains, tables, rules) depth 12
 
-pub returns-in-Refused : goal.returns-in-Refused
-returns-in-Refused c = search (plains, tables, rules) depth 12
+pub returns-in_default : goal.returns-in_default
+returns-in_default c = search (plains, tables, rules) depth 12

@@ -17,8 +17,8 @@ put_fixed-out-requires c = (
   search (statics, tables, rules) depth 12,
 )
 
-pub returns-in-To : goal.returns-in-To
-returns-in-To c = search (statics, tables, rules) depth 12
+pub returns : goal.returns
+returns c = search (statics, tables, rules) depth 12
 
-pub returns-in-Refused : goal.returns-in-Refused
-returns-in-Refused c = search (statics, tables, rules) depth 12
+pub returns-in_default : goal.returns-in_default
+returns-in_default c = search (statics, tables, rules) depth 12

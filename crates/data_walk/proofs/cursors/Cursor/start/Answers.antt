@@ -1,7 +1,7 @@
-use Rattle.common.proofs.Choose.{cases, told}
+use Rattle.common.proofs.Choose.{cases}
 use Rattle.data_walk.specs.Walks.{start}
 use Rattle.data_walk.proofs.cursors.Cursor.start.Goals as goal
 
 pub returns : goal.returns
 unfolding start
-returns c = search (told, cases) depth 12
+returns c = search cases depth 12

@@ -1,6 +1,0 @@
-use Rattle.common.proofs.Choose.{cases}
-use Rattle.schema_check.proofs.Said.{answers}
-use Rattle.call_check.proofs.over.Goals as goal
-
-pub returns : goal.returns
-returns c = search (answers, cases) depth 12
