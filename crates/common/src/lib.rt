@@ -1,4 +1,4 @@
-// What every part of the library stands on: what a refusal says, what reading a number answers, base times, and parts of a slice.
+// What every part of the library stands on: what a refusal says, what reading at a place answers, base times, and parts of a slice.
 #![tactic(auto)]
 
 pub mod refusal; // refusal.rt: faults and slices with document 01's numbers

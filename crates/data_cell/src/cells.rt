@@ -1,6 +1,6 @@
 // One cell.
-ghost use Rattle.common.specs.Got.{said};
 ghost use Rattle.std.specs.Prelude.{◌≡◌};
+ghost use Rattle.common.specs.Got.{said};
 ghost use Rattle.data_cell.specs.Cells.{bad_flags, flags_at, last_at, own_at, lasting_at, content_at, time_at, timed_at, cell_at};
 
 use common::reading::Reading;
@@ -116,16 +116,16 @@ fn read_last(
     ))
 }
 
-// The expiry of a cell that has its own.
+// The expiry of a cell that has its own: the kind 1, the local deletion time, the TTL.
 fn read_own(s: &[u8], at: usize, end: usize, b: Bases) -> Reading<(u8, u64, u64)>
     ensures { said result ≡ own_at b s.now at end }
 {
     let (local, next) = fields::read_local(s, at, end, b)?;
-    let (ttl, after) = fields::read_ttl(s, next, end, b)?;
-    Ok(((1, local, ttl), after))
+    let (ttl, next) = fields::read_ttl(s, next, end, b)?;
+    Ok(((1, local, ttl), next))
 }
 
-// The expiry of a cell that is no tombstone.
+// The expiry of a cell that is no tombstone: its kind, local deletion time and TTL.
 fn read_lasting(
     s: &[u8],
     at: usize,

@@ -19,7 +19,7 @@ fn known_time(s: &[u8], at: usize, end: usize, b: Bases, row: Times, f: u64) -> 
     fields::known_sum(s, at, end, 1, 18446744073709551615, b.timestamp)
 }
 
-// The expiry of a cell that has its own.
+// The expiry of a cell that has its own: the kind 1, the local deletion time, the TTL.
 fn known_own(s: &[u8], at: usize, end: usize, b: Bases) -> ((u8, u64, u64), usize)
     requires { Took (own_at b s.now at end) }
     ensures { got result.0 result.1 ≡ own_at b s.now at end }
@@ -29,7 +29,7 @@ fn known_own(s: &[u8], at: usize, end: usize, b: Bases) -> ((u8, u64, u64), usiz
     ((1, local, ttl), next)
 }
 
-// The expiry of a cell that is no tombstone.
+// The expiry of a cell that is no tombstone: its kind, local deletion time and TTL.
 fn known_lasting(
     s: &[u8],
     at: usize,

@@ -1,6 +1,6 @@
 // The clustering of a row, or of a marker: a header and values.
-ghost use Rattle.common.specs.Got.{said, said_place};
 ghost use Rattle.std.specs.Prelude.{◌≡◌, ◌+◌, ◌*◌, ◌≤◌, length};
+ghost use Rattle.common.specs.Got.{said, said_place};
 ghost use Rattle.data_clustering.specs.Prefixes.{bad_header, header_at, clustering_at, values_at, prefix_at, widths_at, skipped};
 
 use common::reading::{Bad, Reading};
@@ -59,7 +59,7 @@ pub fn read_clustering(s: &[u8], at: usize, end: usize, width: u8, header: u64) 
     fields::read_value(s, at, end, width)
 }
 
-// Past the values of `count` columns, whose records stand in the schema from `first` on.
+// The place behind the values of `count` columns, whose records stand in the schema from `first` on.
 fn skip_values(
     s: &[u8],
     at: usize,

@@ -1,6 +1,6 @@
 // The sizes of a row, or of a marker.
-ghost use Rattle.common.specs.Got.{said};
 ghost use Rattle.std.specs.Prelude.{◌≡◌};
+ghost use Rattle.common.specs.Got.{said};
 ghost use Rattle.data_clustering.specs.Sizes.{sizes_at};
 
 use common::reading::Reading;
@@ -16,6 +16,6 @@ pub fn read_sizes(s: &[u8], at: usize, end: usize) -> Reading<u64>
         return Err(Fault::PastEnd.at(at));
     }
     let stop = next + value as usize;
-    let (_, after) = number_varint::read(s, next, stop)?;
-    Ok((stop as u64, after))
+    let (_, next) = number_varint::read(s, next, stop)?;
+    Ok((stop as u64, next))
 }

@@ -1,6 +1,6 @@
 // The fields that stand in rows, markers and cells.
-ghost use Rattle.common.specs.Got.{said};
 ghost use Rattle.std.specs.Prelude.{◌≡◌};
+ghost use Rattle.common.specs.Got.{said};
 ghost use Rattle.data_field.specs.Fields.{byte_at, in_at, timestamp_at, local_at, ttl_at, deletion_at, variable_at, width_at, value_at};
 
 use common::reading::Reading;
@@ -86,14 +86,14 @@ pub fn read_deletion(s: &[u8], at: usize, end: usize, b: Bases) -> Reading<Delet
     ensures { said result ≡ deletion_at b s.now at end }
 {
     let (mark, next) = read_timestamp(s, at, end, b)?;
-    let (local, after) = read_local(s, next, end, b)?;
+    let (local, next) = read_local(s, next, end, b)?;
     Ok((
         Deletion {
             deleted: 1,
             mark,
             local,
         },
-        after,
+        next,
     ))
 }
 

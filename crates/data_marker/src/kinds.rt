@@ -1,6 +1,6 @@
 // The flags, the kind and the count of a marker.
-ghost use Rattle.common.specs.Got.{said};
 ghost use Rattle.std.specs.Prelude.{◌≡◌};
+ghost use Rattle.common.specs.Got.{said};
 ghost use Rattle.data_marker.specs.Kinds.{marker_flags_at, kind_at, count_at};
 ghost use Rattle.data_turns.specs.Turns.{bad_kind, is_start, is_boundary, out_of_turn};
 

@@ -1,6 +1,6 @@
 // A whole marker.
-ghost use Rattle.common.specs.Got.{said};
 ghost use Rattle.std.specs.Prelude.{◌≡◌, ◌+◌, ◌*◌, ◌≤◌, length};
+ghost use Rattle.common.specs.Got.{said};
 ghost use Rattle.data_clustering.specs.Prefixes.{widths_at};
 ghost use Rattle.data_marker.specs.Markers.{first_at, second_at, deletions_at, body_at, bound_at, marker_at, open_after};
 ghost use Rattle.data_turns.specs.Turns.{same_deletion};
@@ -81,11 +81,11 @@ fn read_deletions(
     ensures { said result ≡ deletions_at b kind opened s.now at end }
 {
     let (first, next) = read_first(s, at, end, b, kind, opened)?;
-    let (second, after) = read_second(s, next, end, b, kind)?;
-    if after < end {
-        return Err(Fault::LeftOver.at(after));
+    let (second, next) = read_second(s, next, end, b, kind)?;
+    if next < end {
+        return Err(Fault::LeftOver.at(next));
     }
-    Ok((Deletions { first, second }, after))
+    Ok((Deletions { first, second }, next))
 }
 
 // The sizes, and the body.
@@ -119,8 +119,8 @@ fn read_bound(
     ensures { said result ≡ bound_at b (widths_at schema.now 16 k) opened start kind s.now at end }
 {
     let (count, next) = kinds::read_count(s, at, end, k)?;
-    let (prefix, after) = prefixes::read_prefix(s, next, end, schema, 16, count)?;
-    let (deletions, stop) = read_body(s, after, end, b, kind, opened)?;
+    let (prefix, next) = prefixes::read_prefix(s, next, end, schema, 16, count)?;
+    let (deletions, stop) = read_body(s, next, end, b, kind, opened)?;
     Ok((
         Marker {
             start,
@@ -149,8 +149,8 @@ pub fn read_marker(
     ensures { said result ≡ marker_at b (widths_at schema.now 16 k) opened s.now at end }
 {
     let (_, next) = kinds::read_marker_flags(s, at, end)?;
-    let (kind, after) = kinds::read_kind(s, next, end, opened.deleted)?;
-    read_bound(s, after, end, schema, k, b, opened, at, kind)
+    let (kind, next) = kinds::read_kind(s, next, end, opened.deleted)?;
+    read_bound(s, next, end, schema, k, b, opened, at, kind)
 }
 
 // The deletion of the range that is open behind a marker of the kind.

@@ -1,6 +1,6 @@
 // The header of a partition: key and deletion.
-ghost use Rattle.common.specs.Got.{said};
 ghost use Rattle.std.specs.Prelude.{◌≡◌};
+ghost use Rattle.common.specs.Got.{said};
 ghost use Rattle.data_partition.specs.Partitions.{key_of, deleted_by, deleted_at, partition_at};
 
 use common::reading::Reading;

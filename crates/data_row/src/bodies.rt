@@ -1,6 +1,6 @@
 // The body of a row up to its first cell.
-ghost use Rattle.common.specs.Got.{said};
 ghost use Rattle.std.specs.Prelude.{◌≡◌, ◌≤◌};
+ghost use Rattle.common.specs.Got.{said};
 ghost use Rattle.data_row.specs.Bodies.{expiry_at, liveness_at, row_deletion_at, columns, present_at, content_at, body_at};
 
 use common::reading::Reading;
@@ -25,7 +25,7 @@ fn read_expiry(s: &[u8], at: usize, end: usize, b: Bases, timestamp: u64) -> Rea
     ensures { said result ≡ expiry_at b timestamp s.now at end }
 {
     let (ttl, next) = fields::read_ttl(s, at, end, b)?;
-    let (local, after) = fields::read_local(s, next, end, b)?;
+    let (local, next) = fields::read_local(s, next, end, b)?;
     Ok((
         Times {
             timed: 1,
@@ -34,7 +34,7 @@ fn read_expiry(s: &[u8], at: usize, end: usize, b: Bases, timestamp: u64) -> Rea
             local,
             ttl,
         },
-        after,
+        next,
     ))
 }
 
@@ -118,8 +118,8 @@ fn read_content(s: &[u8], at: usize, stop: usize, b: Bases, k: u64, f: u64) -> R
     ensures { said result ≡ content_at b k f stop s.now at stop }
 {
     let (times, next) = read_liveness(s, at, stop, b, f)?;
-    let (deletion, after) = read_row_deletion(s, next, stop, b, f)?;
-    let (present, cells) = read_present(s, after, stop, k, f)?;
+    let (deletion, next) = read_row_deletion(s, next, stop, b, f)?;
+    let (present, cells) = read_present(s, next, stop, k, f)?;
     Ok((
         Body {
             stop,
@@ -131,7 +131,7 @@ fn read_content(s: &[u8], at: usize, stop: usize, b: Bases, k: u64, f: u64) -> R
     ))
 }
 
-// The sizes, and the body of a row with the flags f before the cells of k columns.
+// The sizes, and the body of a row with the flags f before the cells of k columns: the place after it is that of the first cell.
 pub(crate) fn read_body(s: &[u8], at: usize, end: usize, b: Bases, k: u64, f: u64) -> Reading<Body>
     requires { k ≤ 63 }
     ensures { said result ≡ body_at b k f s.now at end }

@@ -1,6 +1,6 @@
 // The flags of a row and its extended byte.
-ghost use Rattle.common.specs.Got.{said};
 ghost use Rattle.std.specs.Prelude.{◌≡◌};
+ghost use Rattle.common.specs.Got.{said};
 ghost use Rattle.data_row.specs.Flags.{bad_row_flags, row_flags_at, extended_of, extended_at};
 ghost use Rattle.data_turns.specs.Turns.{may_stand};
 

@@ -1,6 +1,6 @@
 // A row, from its flags to its first cell.
-ghost use Rattle.common.specs.Got.{said};
 ghost use Rattle.std.specs.Prelude.{◌≡◌, ◌+◌, ◌*◌, ◌≤◌, length};
+ghost use Rattle.common.specs.Got.{said};
 ghost use Rattle.data_clustering.specs.Prefixes.{widths_at};
 ghost use Rattle.data_row.specs.Rows.{rest_at, clustering_in, cells_in, static_in, row_at};
 
@@ -85,7 +85,7 @@ fn static_of(x: u64) -> u64
 }
 
 // The row at at, before end: `count` clustering columns, whose records stand behind the key's, and so many static and regular columns;
-// `first` is 1 right behind the partition's header, else 0.
+// `first` is 1 right behind the partition's header, else 0. The place after it is that of its first cell.
 // Internal: for callers that have checked the schema.
 pub fn read_row(
     s: &[u8],
@@ -102,9 +102,9 @@ pub fn read_row(
     ensures { said result ≡ row_at b (widths_at schema.now 16 count) statics regulars first s.now at end }
 {
     let (f, next) = flags::read_row_flags(s, at, end)?;
-    let (x, after) = flags::read_extended(s, next, end, f, first, statics)?;
+    let (x, next) = flags::read_extended(s, next, end, f, first, statics)?;
     let values = clustering_of(x, count);
     let cells = cells_of(x, statics, regulars);
     let extended = static_of(x);
-    read_rest(s, after, end, schema, values, b, cells, at, f, extended)
+    read_rest(s, next, end, schema, values, b, cells, at, f, extended)
 }

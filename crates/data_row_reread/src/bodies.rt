@@ -142,7 +142,7 @@ fn known_content(s: &[u8], at: usize, stop: usize, b: Bases, k: u64, f: u64) -> 
     )
 }
 
-// The sizes, and the body of a row with the flags f before the cells of k columns.
+// The sizes, and the body of a row with the flags f before the cells of k columns: the place after it is that of the first cell.
 pub(crate) fn known_body(s: &[u8], at: usize, end: usize, b: Bases, k: u64, f: u64) -> (Body, usize)
     requires { (k ≤ 63) × Took (body_at b k f s.now at end) }
     ensures { got result.0 result.1 ≡ body_at b k f s.now at end }

@@ -54,7 +54,7 @@ fn known_rest(
 }
 
 // The row at at, before end: `count` clustering columns, whose records stand behind the key's, and so many static and regular columns;
-// `first` is 1 right behind the partition's header, else 0.
+// `first` is 1 right behind the partition's header, else 0. The place after it is that of its first cell.
 // Internal: for code that has read the same before.
 pub fn known_row(
     s: &[u8],

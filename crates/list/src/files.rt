@@ -90,8 +90,8 @@ fn read_file(file: &mut impl Read, buf: &mut [u8]) -> io::Result<Option<usize>>
     if got == 0 { Ok(Some(n)) } else { Ok(None) }
 }
 
-// Reads all of a file into buf, from its start on. An error is the output's, where what is not listed could not be said: buf then has
-// as many bytes as before, and which they are is open.
+// Reads all of a file into buf, from its start on: how many bytes it has, or None where it is not listed, which was said. An error is
+// the output's, where what is not listed could not be said: buf then has as many bytes as before, and which they are is open.
 pub(crate) fn load(
     rt: &(impl Files + Print),
     folder: &[u8],

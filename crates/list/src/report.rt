@@ -21,7 +21,7 @@ fn record_bytes(z: Sizes) -> usize
     16 * (1 + z.clustering as usize + z.statics as usize + z.regulars as usize)
 }
 
-// Whether Data is listed, in a table of the bases whose schema records are the first len bytes.
+// Whether Data is listed, in a table of the bases whose schema records are the first len bytes: then the bases and len.
 fn count(schema: &[u8], len: usize, bases: Bases, data: &[u8]) -> Result<(Bases, usize), Refusal>
     requires { (len ≤ 2544) × (2544 ≤ length schema.now) }
     ensures schema_value { begun_of result schema.now ≡ counted_at (take len schema.now) bases «data».now }
@@ -31,7 +31,8 @@ fn count(schema: &[u8], len: usize, bases: Bases, data: &[u8]) -> Result<(Bases,
     Ok((bases, len))
 }
 
-// Reads Statistics, its schema records into schema, and tells whether Data is listed: known before the first line is printed.
+// Reads Statistics, its schema records into schema, and tells whether Data is listed: known before the first line is printed. Then the
+// bases, and how many bytes the schema records take.
 fn begin(file: &[u8], data: &[u8], schema: &mut [u8]) -> Result<(Bases, usize), Refusal>
     requires { length schema.old ≡ 2544 }
     ensures schema_after { begun_of result schema.new ≡ begun_at file.now «data».now }

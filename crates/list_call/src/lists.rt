@@ -61,7 +61,7 @@ fn list_in(c: &[u8], k: Counts, b: Bases, s: &[u8], d: &mut [u8]) -> Result<usiz
     Ok(n)
 }
 
-// Lists Data into out: a record of 64 bytes for each item. Refused, or too long for out, out stays as it is.
+// Lists Data into out: a record of 64 bytes for each item, and how many there are. Refused, or too long for out, out stays as it is.
 pub fn list(schema: &[u8], bases: Bases, data: &[u8], out: &mut [u8]) -> Result<usize, Refusal>
     ensures { Lists (list_at schema.now bases «data».now (length out.old)) out.old out.new result }
 {

@@ -1,6 +1,6 @@
 // The items of Data, counted.
-ghost use Rattle.common.specs.Got.{said};
 ghost use Rattle.std.specs.Prelude.{◌≡◌, ◌+◌, ◌*◌, ◌≤◌, length};
+ghost use Rattle.common.specs.Got.{said};
 ghost use Rattle.data_field.specs.Fields.{live};
 ghost use Rattle.data_clustering.specs.Prefixes.{widths_at};
 ghost use Rattle.data_row.specs.Bodies.{columns};
@@ -97,7 +97,8 @@ fn count_row(c: &[u8], k: Counts, b: Bases, s: &[u8], first: u8, at: usize, n: u
     )
 }
 
-// The marker at at with its values, where the deletion of the open range is `opened`, n before it.
+// The marker at at with its values, where the deletion of the open range is `opened`, n before it: the deletion of the range that is open
+// behind it, and how many items stand before the next entry.
 fn count_marker(
     c: &[u8],
     k: Counts,

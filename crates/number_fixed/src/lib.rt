@@ -1,8 +1,8 @@
 // Fixed numbers: big-endian, of any width up to eight bytes.
 #![tactic(auto)]
 
-ghost use Rattle.common.specs.Got.{said};
 ghost use Rattle.std.specs.Prelude.{◌≡◌, ◌+◌, ◌*◌, ◌/◌, ◌%◌, ◌^◌, ◌≤◌, ◌<◌, length, get_or};
+ghost use Rattle.common.specs.Got.{said};
 ghost use Rattle.number_fixed.specs.BigEndian.{big_endian, bytes_of, swap_four, swap_eight, four_of, little_four, fixed_at};
 ghost use Rattle.common.specs.Store.{Room, Puts, Stores};
 
@@ -198,7 +198,7 @@ pub fn put_in(d: &mut [u8], at: usize, n: usize, x: u64) -> usize
     put_each(d, at, n, x)
 }
 
-// Stores the n lowest bytes of x at at, highest first, where they fit.
+// Stores the n lowest bytes of x at at, highest first, where they fit: the place after them. None: nothing is stored.
 pub fn put(d: &mut [u8], at: usize, n: usize, x: u64) -> Option<usize>
     ensures { Stores d.old d.new at (bytes_of x n) result }
 {

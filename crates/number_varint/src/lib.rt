@@ -97,7 +97,7 @@ pub fn put_in(d: &mut [u8], at: usize, x: u64) -> usize
     number_fixed::put_in(d, at + 1, n, x)
 }
 
-// Stores the shortest varint of x at at, where it fits.
+// Stores the shortest varint of x at at, where it fits: the place after it. None: nothing is stored.
 pub fn put(d: &mut [u8], at: usize, x: u64) -> Option<usize>
     ensures { Stores d.old d.new at (shortest x) result }
 {

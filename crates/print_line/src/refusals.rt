@@ -4,8 +4,8 @@ ghost use Rattle.common.specs.Store.{Room, Puts};
 ghost use Rattle.print_line.specs.Lines.{spaced, slice_name, words_of, where_of, refusal_line};
 
 use crate::numbers;
+use common::part;
 use common::refusal::{Refusal, Slice};
-use common::{part, refusal};
 
 // Stores the text w, and a space.
 fn put_text(d: &mut [u8], at: usize, w: &[u8]) -> usize

@@ -2,7 +2,7 @@
 ghost use Rattle.std.specs.Prelude.{◌≡◌};
 ghost use Rattle.sstable.specs.Statistics.{StatisticsRead};
 
-use common::{refusal, times};
+use common::times;
 
 // The words of `sstable_statistics_read`.
 fn read_words(file: &[u8], schema: &mut [u8]) -> [u64; 12]

@@ -5,8 +5,8 @@ ghost use Rattle.sstable_words.specs.Words.{words};
 ghost use Rattle.sstable_data.specs.Data.{bases_in, phase_number, phase_of, flag_of, opened_in, times_in, hand_in, position_in, cursor_in, state_words, item_words, no_item, step_of, Told, showing, Shows, number_words};
 
 use common::refusal::Refusal;
+use common::times;
 use common::times::Bases;
-use common::{refusal, times};
 use data_cell::cells::Times;
 use data_field::fields::Deletion;
 use data_items::Item;

@@ -1,5 +1,5 @@
 // Data from records, for C.
-ghost use Rattle.std.specs.Prelude.{◌≡◌, length};
+ghost use Rattle.std.specs.Prelude.{length};
 ghost use Rattle.sstable_data.specs.Data.{data_of, Writing};
 
 use crate::data_db;

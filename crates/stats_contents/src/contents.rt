@@ -1,6 +1,6 @@
 // The contents of Statistics: which entries there are, and where.
-ghost use Rattle.common.specs.Got.{said};
 ghost use Rattle.std.specs.Prelude.{◌≡◌, Bool, ◌+◌, ◌*◌, ◌≤◌, length};
+ghost use Rattle.common.specs.Got.{said};
 ghost use Rattle.stats_contents.specs.Contents.{none, offset_of, with_entry, used, entry_type_at, offset_at, pairs_at, count_at, contents_at, nearer, end_of};
 
 use common::reading::Reading;

@@ -1,6 +1,6 @@
 // The base times that the header's three varints give.
-ghost use Rattle.common.specs.Got.{said};
 ghost use Rattle.std.specs.Prelude.{◌≡◌};
+ghost use Rattle.common.specs.Got.{said};
 ghost use Rattle.stats_file.specs.Bases.{timestamp_at, local_of, local_at, ttl_at, bases_at};
 
 use common::reading::Reading;

@@ -1,7 +1,7 @@
 // The columns of the header, and the schema records that they give. The records are made in a buffer of the reader's own, where the
 // names that were read are found again; so whatever is refused, the caller's buffer is as it was.
-ghost use Rattle.common.specs.Got.{said};
 ghost use Rattle.std.specs.Prelude.{◌≡◌, ◌+◌, ◌*◌, ◌≤◌, length};
+ghost use Rattle.common.specs.Got.{said};
 ghost use Rattle.common.specs.Store.{Room, Puts, shown};
 ghost use Rattle.stats_file.specs.Header.{column, count_at, typed_at, is_named, name_at, named_at, column_at, columns_at, group_at, groups_at, head_of, place_of, tail_of, record_of};
 ghost use Rattle.stats_file.specs.Buffer.{columns_from, Kept, Adds, Fills, FillsGroup, FillsGroups};

@@ -5,8 +5,8 @@ mod bases; // bases.rt: the base times
 pub mod columns; // columns.rt: the columns of the header, and their schema records
 mod header; // header.rt: entry 3
 
-ghost use Rattle.common.specs.Got.{said};
 ghost use Rattle.std.specs.Prelude.{◌≡◌, ◌*◌, ◌≤◌, length};
+ghost use Rattle.common.specs.Got.{said};
 ghost use Rattle.stats_file.specs.Statistics.{entry0_at, entry3_at, forward_at, backward_at, file_at, FillsFile, Reads};
 ghost use Rattle.stats_file.specs.Buffer.{column_count, FillsHeader};
 

@@ -1,8 +1,8 @@
 // Entry 0 of Statistics.
 #![tactic(auto)]
 
-ghost use Rattle.common.specs.Got.{said};
 ghost use Rattle.std.specs.Prelude.{◌≡◌};
+ghost use Rattle.common.specs.Got.{said};
 ghost use Rattle.stats_validation.specs.Validation.{chance_of, chance_at, validation_at};
 
 use common::reading::Reading;

@@ -76,7 +76,8 @@ pub fn name_at(s: &[u8], at: usize) -> Name
     }
 }
 
-// From at on, inside parentheses, where left more may open: up to the one that closes them. Each inner pair is a call with one less left.
+// From at on, inside parentheses, where left more may open: the place behind the one that closes them. Each inner pair is a call with
+// one less left.
 // Internal: of a type string.
 pub fn inside(s: &[u8], at: usize, left: u8) -> Result<usize, Fault>
     ensures { said_skip s.now result ≡ inside left 0 (rest s.now at) }

@@ -3,8 +3,8 @@
 
 mod string; // string.rt: type strings
 
-ghost use Rattle.common.specs.Got.{said};
 ghost use Rattle.std.specs.Prelude.{◌≡◌};
+ghost use Rattle.common.specs.Got.{said};
 ghost use Rattle.type_string.specs.Strings.{type_at};
 
 use common::reading::Reading;

@@ -70,8 +70,8 @@ fn write_in(
     Ok(n)
 }
 
-// Writes the Data of a record table into out; the keys and values of the records lie in bytes. Refused, or too long for out, out
-// stays as it is.
+// Writes the Data of a record table into out, and says how long it is; the keys and values of the records lie in bytes. Refused, or too
+// long for out, out stays as it is.
 pub fn write(
     schema: &[u8],
     bases: Bases,

@@ -1,6 +1,6 @@
 // One entry of a partition, checked and measured.
-ghost use Rattle.common.specs.Got.{said};
 ghost use Rattle.std.specs.Prelude.{◌≡◌, ◌≤◌, length};
+ghost use Rattle.common.specs.Got.{said};
 ghost use Rattle.call_check.specs.Tables.{Table};
 ghost use Rattle.data_contents.specs.Contents.{widths_of};
 ghost use Rattle.write_accept.specs.Entries.{taken_static, taken_row, taken_marker, taken_entry};
@@ -82,7 +82,9 @@ fn marker_len(
     4 + prefixes::header_len(count, header) + v + body
 }
 
-// A static row's cells, behind its record, which says i. An entry begins `back` bytes behind what its previous size counts from.
+// Here and below an entry begins `back` bytes behind what its previous size counts from, and the answer is the deletion of the range that is
+// open behind it, what the next previous size counts, and how long the entry is.
+// A static row's cells, behind its record, which says i.
 fn measure_static_rest(
     c: &[u8],
     k: Counts,

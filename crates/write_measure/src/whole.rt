@@ -1,6 +1,6 @@
 // All of a record table, checked and measured.
-ghost use Rattle.common.specs.Got.{said};
 ghost use Rattle.std.specs.Prelude.{◌≡◌, ◌*◌, ◌≤◌, length};
+ghost use Rattle.common.specs.Got.{said};
 ghost use Rattle.data_field.specs.Fields.{live};
 ghost use Rattle.call_check.specs.Tables.{Table};
 ghost use Rattle.data_contents.specs.Contents.{widths_of};

@@ -1,6 +1,6 @@
 // Clustering values and cells of a record table that was checked, measured without its tests.
-ghost use Rattle.common.specs.Got.{said};
 ghost use Rattle.std.specs.Prelude.{◌≡◌, ◌+◌, ◌*◌, ◌≤◌, length};
+ghost use Rattle.common.specs.Got.{said};
 ghost use Rattle.data_clustering.specs.Prefixes.{widths_at};
 ghost use Rattle.write_accept.specs.Entries.{taken_cells};
 ghost use Rattle.write_measure_parts.specs.Lengths.{taken_clustering, clustering_measured, cells_measured, Known};

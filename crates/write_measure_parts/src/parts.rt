@@ -1,6 +1,6 @@
 // Clustering values and cells, checked and measured.
-ghost use Rattle.common.specs.Got.{said};
 ghost use Rattle.std.specs.Prelude.{◌≡◌, ◌+◌, ◌*◌, ◌≤◌, ◌<◌, length, get_or};
+ghost use Rattle.common.specs.Got.{said};
 ghost use Rattle.data_clustering.specs.Prefixes.{widths_at};
 ghost use Rattle.write_accept.specs.Entries.{taken_cells};
 ghost use Rattle.write_measure_parts.specs.Lengths.{taken_clustering, is_over, empty_bit, clustering_measured, cell_column, columns_from, cells_measured};
@@ -46,7 +46,8 @@ pub(crate) fn empty_bit(n: usize, i: u64) -> u64
     0
 }
 
-// The clustering values from at on, of k columns: of a row (whole) all, of a marker the first.
+// The clustering values from at on, of k columns: of a row (whole) all, of a marker the first. How many there are, the header's bits of
+// them, and how long they are without the header.
 // Internal: for callers that have checked the schema.
 pub fn measure_clustering(
     c: &[u8],
@@ -98,7 +99,7 @@ pub(crate) fn columns_from(i: u64, j: u64) -> u64
 }
 
 // The cells from at on, of k columns whose records stand in the schema from base on, in a row of these times. A missing column costs
-// nothing: the next cell names its own.
+// nothing: the next cell names its own. A bit for each missing column, and how long the cells are.
 // Internal: for callers that have checked the schema.
 pub fn measure_cells(
     c: &[u8],

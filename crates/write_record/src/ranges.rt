@@ -1,6 +1,6 @@
 // The ranges of a record's numbers.
-ghost use Rattle.common.specs.Got.{said};
 ghost use Rattle.std.specs.Prelude.{◌≡◌, ◌+◌, ◌<◌, ◌^◌};
+ghost use Rattle.common.specs.Got.{said};
 ghost use Rattle.write_accept.specs.Records.{outside, ranges_at};
 ghost use Rattle.write_record.specs.Records.{own_last_at, own_at, second_at};
 

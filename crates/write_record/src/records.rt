@@ -1,6 +1,6 @@
 // A record of each kind, from a place on in a record table.
-ghost use Rattle.common.specs.Got.{said};
 ghost use Rattle.std.specs.Prelude.{◌≡◌, ◌-◌, length};
+ghost use Rattle.common.specs.Got.{said};
 ghost use Rattle.write_accept.specs.Records.{record_at, kind_at};
 ghost use Rattle.write_accept.specs.Tests.{bad_row, bad_clustering, bad_cell};
 ghost use Rattle.write_record.specs.Records.{plain_at, wrong_in};

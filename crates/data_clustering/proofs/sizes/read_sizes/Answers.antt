@@ -16,9 +16,9 @@ pub returns-in_err-value : goal.returns-in_err-value
 unfolding sizes_at
 returns-in_err-value c = said_again _ _ _ c.from_residual.ensures (search (trying, cases) depth 12)
 
-pub returns-in_err-after : goal.returns-in_err-after
+pub returns-in_err-next : goal.returns-in_err-next
 unfolding sizes_at
-returns-in_err-after c = said_again _ _ _ c.from_residual-in_err-after.ensures (search (trying, cases) depth 12)
+returns-in_err-next c = said_again _ _ _ c.from_residual-in_err-next.ensures (search (trying, cases) depth 12)
 
 pub returns : goal.returns
 unfolding sizes_at

@@ -3,9 +3,9 @@ use Rattle.common.proofs.Said.{trying, said_again}
 use Rattle.data_marker.specs.Markers.{deletions_at}
 use Rattle.data_marker.proofs.markers.read_deletions.Goals as goal
 
-pub returns-then-after-end : goal.returns-then-after-end
+pub returns-then-next-end : goal.returns-then-next-end
 unfolding deletions_at
-returns-then-after-end c = search (trying, cases) depth 12
+returns-then-next-end c = search (trying, cases) depth 12
 
 pub returns-in_err-first : goal.returns-in_err-first
 unfolding deletions_at
