@@ -1,7 +1,6 @@
 -- Calls that store one after the other: `search puts` finds that each has room, and what they leave. Assumes nothing.
-use Rattle.std.proofs.Common.{◌≡◌, ℕ, Some, None, ◌+◌, ◌-◌, ◌^◌, ◌<◌, ◌≤◌, Bool, true, false, leb, List, [], ◌++◌, length, get_or, take, drop, set, sym, refl, ap, ◌∙◌, append-nil, add-zero, arith, length-append, length-drop, length-set, take-append-drop, length-take, drop-drop, append_assoc, get_or-drop, get_or-take, w64, Fits, le-ltb, le-leb}
+use Rattle.std.proofs.Common.{◌≡◌, ℕ, Some, None, ◌+◌, ◌-◌, ◌^◌, ◌<◌, ◌≤◌, Bool, true, false, leb, List, [], ◌++◌, length, get_or, take, drop, set, sym, refl, ap, ◌∙◌, append-nil, add-zero, arith, length-append, length-drop, length-set, take-append-drop, length-take, get_or-drop, get_or-take, w64, Fits, le-ltb, le-leb}
 use borrow.Author.Tests.{lt-leb}
-use borrow.Rule.Slice.PartMut.{put_mid}
 use Rattle.common.specs.Choose.{pick}
 use Rattle.common.specs.Store.{splice, part, Room, Puts, stored, storing, Stores, shown}
 use Rattle.common.proofs.Choose.{pick_yes, pick_no}
@@ -116,13 +115,3 @@ unfolding shown part
 shown_whole s start len h k =
     let e : start + len - start ≡ len = omega arith in
     rw e (pick_no _ _ _ _ (le-ltb (length s) start h) (pick_no _ _ _ _ (le-ltb (length s - start) len k) refl))
-
--- a part of a slice, copied over a range of another
-pub copied : (d s : List ℕ) (at start len : ℕ) (new : List ℕ) → start + len ≤ length s → Room d at (part s start len) → new ≡ take (start + len - start) (drop start s)
-    → Puts d (put_mid at (at + len - at) d new) at (part s start len) (at + len)
-unfolding part splice
-copied d s at start len new l r e =
-    let f : start + len - start ≡ len = omega arith in
-    let g : at + len - at ≡ len = omega arith in
-    let h : length (take len (drop start s)) ≡ len = length_part s start len l in
-    record { next = omega arith; stores = rw (e, f, g, h, drop-drop len at d) (sym (append_assoc (take at d) (take len (drop start s)) (drop (at + len) d))) }

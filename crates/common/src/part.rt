@@ -8,7 +8,9 @@ pub fn put_part(d: &mut [u8], at: usize, s: &[u8], start: usize, len: usize) -> 
     requires { (start + len ≤ length s.now) × Room d.old at (part s.now start len) }
     ensures { Puts d.old d.new at (part s.now start len) result }
 {
-    d[at..at + len].copy_from_slice(&s[start..start + len]);
+    for i in 0..len {
+        d[at + i] = s[start + i];
+    }
     at + len
 }
 

@@ -9,7 +9,19 @@ ghost use Rattle.text.specs.Text.{same, among, starts_with};
 pub fn equal(a: &[u8], b: &[u8]) -> bool
     ensures { result ≡ same a.now b.now }
 {
-    a == b
+    if a.len() != b.len() {
+        return false;
+    }
+    // The library compares many bytes at once, which a short text does not repay.
+    if 8 < a.len() {
+        return a == b;
+    }
+    for i in 0..a.len() {
+        if a[i] != b[i] {
+            return false;
+        }
+    }
+    true
 }
 
 // Whether s begins with the prefix.
@@ -17,7 +29,11 @@ pub fn equal(a: &[u8], b: &[u8]) -> bool
 pub fn starts_with(s: &[u8], prefix: &[u8]) -> bool
     ensures { result ≡ starts_with s.now prefix.now }
 {
-    s.starts_with(prefix)
+    let n = prefix.len();
+    if s.len() < n {
+        return false;
+    }
+    equal(&s[0..n], prefix)
 }
 
 // Whether c is one of the bytes.
@@ -25,5 +41,10 @@ pub fn starts_with(s: &[u8], prefix: &[u8]) -> bool
 pub fn among(c: u8, bytes: &[u8]) -> bool
     ensures { result ≡ among c bytes.now }
 {
-    bytes.contains(&c)
+    for i in 0..bytes.len() {
+        if c == bytes[i] {
+            return true;
+        }
+    }
+    false
 }
