@@ -15,6 +15,13 @@ pub fn big_endian(s: &[u8], at: usize, n: usize, acc: u64) -> u64
     requires { (at + n ≤ length s.now) × ((acc + 1) * 256 ^ n ≤ 2 ^ 64) }
     ensures { result ≡ big_endian acc s.now at n }
 {
+    // The commonest widths are one load each; the loop is not compiled to one.
+    if acc == 0 && n == 4 {
+        return four_in(s, at);
+    }
+    if acc == 0 && n == 8 {
+        return eight_in(s, at);
+    }
     let mut v = acc;
     for i in 0..n {
         let b = s[at + i] as u64;
