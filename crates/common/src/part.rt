@@ -8,6 +8,7 @@ pub fn put_part(d: &mut [u8], at: usize, s: &[u8], start: usize, len: usize) -> 
     requires { (start + len ≤ length s.now) × Room d.old at (part s.now start len) }
     ensures { Puts d.old d.new at (part s.now start len) result }
 {
+    // Byte by byte: the library's copy would have a program in C bring memmove.
     for i in 0..len {
         d[at + i] = s[start + i];
     }

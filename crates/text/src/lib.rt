@@ -29,6 +29,7 @@ pub fn equal(a: &[u8], b: &[u8]) -> bool
 pub fn starts_with(s: &[u8], prefix: &[u8]) -> bool
     ensures { result ≡ starts_with s.now prefix.now }
 {
+    // Not the library's own test: a wrong one would not be refused at a fact.
     let n = prefix.len();
     if s.len() < n {
         return false;
@@ -41,6 +42,7 @@ pub fn starts_with(s: &[u8], prefix: &[u8]) -> bool
 pub fn among(c: u8, bytes: &[u8]) -> bool
     ensures { result ≡ among c bytes.now }
 {
+    // The library's own search takes three times as long over so few bytes.
     for i in 0..bytes.len() {
         if c == bytes[i] {
             return true;
